@@ -1,0 +1,105 @@
+// Names and reasons.
+ghost use Rattle.std.specs.Prelude.{◌≡◌, ◌≤◌, length, IfOk};
+ghost use Rattle.pp_graph.specs.Names.{is_name as is_name_of, is_reason as is_reason_of};
+
+use std::alloc::{AllocError, Global};
+use std::marker::Model;
+
+/// The name of a host code or a node. The type holds any list of at most 255 bytes; a graph holds only names
+/// of 1 to 32 bytes: a letter or `_`, then letters, digits or `_`.
+#[derive(Debug, Drop)]
+pub struct Name {
+    bytes: Vec<u8>,
+}
+
+impl Model for Name {
+    ghost use Rattle.std.specs.Prelude.{List, ℕ, ◌≤◌, length};
+
+    ghost Value = { List ℕ };
+
+    ghost view = { λ n. n.bytes.items };
+
+    ghost invariant = { λ n. length n.bytes.items ≤ 255 };
+}
+
+impl Name {
+    /// A name of these bytes.
+    pub fn new(alloc: Global, bytes: &[u8]) -> Result<Name, AllocError>
+        requires { length bytes.now ≤ 255 }
+        ensures { IfOk result (λ name. name ≡ bytes.now) }
+    {
+        Ok(Name {
+            bytes: Vec::from_slice(alloc, bytes)?,
+        })
+    }
+
+    /// Its bytes.
+    pub fn bytes(&self) -> &[u8]
+        ensures value { result.now ≡ self.now }
+        ensures short { length self.now ≤ 255 }
+    {
+        &self.bytes
+    }
+}
+
+/// The reason that an error node gives. The type holds any list of at most 255 bytes; a graph holds only reasons
+/// of 1 to 80 bytes from 0x20 to 0x7E without `"` and `\`.
+#[derive(Debug, Drop)]
+pub struct Reason {
+    bytes: Vec<u8>,
+}
+
+impl Model for Reason {
+    ghost use Rattle.std.specs.Prelude.{List, ℕ, ◌≤◌, length};
+
+    ghost Value = { List ℕ };
+
+    ghost view = { λ r. r.bytes.items };
+
+    ghost invariant = { λ r. length r.bytes.items ≤ 255 };
+}
+
+impl Reason {
+    /// A reason of these bytes.
+    pub fn new(alloc: Global, bytes: &[u8]) -> Result<Reason, AllocError>
+        requires { length bytes.now ≤ 255 }
+        ensures { IfOk result (λ reason. reason ≡ bytes.now) }
+    {
+        Ok(Reason {
+            bytes: Vec::from_slice(alloc, bytes)?,
+        })
+    }
+
+    /// Its bytes.
+    pub fn bytes(&self) -> &[u8]
+        ensures value { result.now ≡ self.now }
+        ensures short { length self.now ≤ 255 }
+    {
+        &self.bytes
+    }
+}
+
+/// Whether the bytes have the form of a name.
+pub fn is_name(bytes: &[u8]) -> bool
+    ensures { result ≡ is_name_of bytes.now }
+{
+    match bytes {
+        [] => false,
+        [first, rest @ ..] => {
+            (first.is_ascii_alphabetic() || *first == b'_')
+                && rest.iter().all(|b| b.is_ascii_alphanumeric() || *b == b'_')
+                && rest.len() <= 31
+        }
+    }
+}
+
+/// Whether the bytes have the form of a reason.
+pub fn is_reason(bytes: &[u8]) -> bool
+    ensures { result ≡ is_reason_of bytes.now }
+{
+    1 <= bytes.len()
+        && bytes.len() <= 80
+        && bytes
+            .iter()
+            .all(|b| 0x20 <= *b && *b <= 0x7e && *b != b'"' && *b != b'\\')
+}
