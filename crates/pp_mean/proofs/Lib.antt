@@ -1,0 +1,4 @@
+pub mod ChainLaws
+pub mod PlainLaws
+pub mod WholeLaws
+mod Rows

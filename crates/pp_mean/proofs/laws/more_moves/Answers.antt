@@ -1,0 +1,7 @@
+use Rattle.pp_mean.specs.Run.{move}
+use Rattle.pp_mean.specs.Nodes.{graph_turn}
+use Rattle.pp_mean.proofs.ChainLaws.{more_moves as more}
+use Rattle.pp_mean.proofs.laws.more_moves.Goals as goal
+
+pub returns : goal.returns
+returns c g oracle k n s r h = more (move (graph_turn g) oracle) k n s r h

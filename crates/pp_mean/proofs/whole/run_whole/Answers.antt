@@ -1,0 +1,45 @@
+use Rattle.std.proofs.Common.{◌+◌, subst, set, List, sym, refl, ◌∙◌}
+use Rattle.pp_mean.specs.declared.item.Item.{Item}
+use Rattle.pp_mean.proofs.WholeLaws.{Comes, turning_from, fits_here, takes_byte, takes_none, asks, waits_there, breaks_there}
+use Rattle.pp_mean.proofs.whole.run_whole.Goals as goal
+
+pub run-smaller-then-takes : goal.run-smaller-then-takes
+run-smaller-then-takes c =
+    let turning = turning_from _ _ _ _ _ _ _ c.index-nodes-node.result _ _ c.run.invariant.come c.run.invariant.same c.index.ensures c.if-index-at.false c.byte_at-next.ensures in
+    (takes_byte _ _ _ _ _ _ _ _ turning c.in-Goes.target c.in-Goes.takes c.in-Goes.ensures.turn c.in-Goes.ensures.takes c.if-takes.true (c.in-Goes.ensures.leads _ _ (fits_here _ _ _ _ _ _ _ _ turning c.nodes-nodes.ensures.well_formed))).1
+
+pub run-preserved-then-takes : goal.run-preserved-then-takes
+run-preserved-then-takes c =
+    let turning = turning_from _ _ _ _ _ _ _ c.index-nodes-node.result _ _ c.run.invariant.come c.run.invariant.same c.index.ensures c.if-index-at.false c.byte_at-next.ensures in
+    record { come = (takes_byte _ _ _ _ _ _ _ _ turning c.in-Goes.target c.in-Goes.takes c.in-Goes.ensures.turn c.in-Goes.ensures.takes c.if-takes.true (c.in-Goes.ensures.leads _ _ (fits_here _ _ _ _ _ _ _ _ turning c.nodes-nodes.ensures.well_formed))).0; same = c.run.invariant.same }
+
+pub run-smaller-else-takes : goal.run-smaller-else-takes
+run-smaller-else-takes c =
+    let turning = turning_from _ _ _ _ _ _ _ c.index-nodes-node.result _ _ c.run.invariant.come c.run.invariant.same c.index.ensures c.if-index-at.false c.byte_at-next.ensures in
+    (takes_none _ _ _ _ _ _ _ _ turning c.in-Goes.target c.in-Goes.takes c.in-Goes.ensures.turn c.if-takes.false (c.in-Goes.ensures.leads _ _ (fits_here _ _ _ _ _ _ _ _ turning c.nodes-nodes.ensures.well_formed))).1
+
+pub run-preserved-else-takes : goal.run-preserved-else-takes
+run-preserved-else-takes c =
+    let turning = turning_from _ _ _ _ _ _ _ c.index-nodes-node.result _ _ c.run.invariant.come c.run.invariant.same c.index.ensures c.if-index-at.false c.byte_at-next.ensures in
+    record { come = (takes_none _ _ _ _ _ _ _ _ turning c.in-Goes.target c.in-Goes.takes c.in-Goes.ensures.turn c.if-takes.false (c.in-Goes.ensures.leads _ _ (fits_here _ _ _ _ _ _ _ _ turning c.nodes-nodes.ensures.well_formed))).0; same = c.run.invariant.same }
+
+pub run-smaller : goal.run-smaller
+run-smaller c =
+    let turning = turning_from _ _ _ _ _ _ _ c.index-nodes-node.result _ _ c.run.invariant.come c.run.invariant.same c.index.ensures c.if-index-at.false c.byte_at-next.ensures in
+    (asks _ _ _ _ _ _ _ _ turning c.in-Asks.target c.in-Asks.host c.in-Asks.ensures.turn (c.in-Asks.ensures.leads _ _ (fits_here _ _ _ _ _ _ _ _ turning c.nodes-nodes.ensures.well_formed))).1
+
+pub run-preserved : goal.run-preserved
+run-preserved c =
+    let turning = turning_from _ _ _ _ _ _ _ c.index-nodes-node.result _ _ c.run.invariant.come c.run.invariant.same c.index.ensures c.if-index-at.false c.byte_at-next.ensures in
+    record { come = subst (λ (l : List Item). Comes c.args.graph.now c.args.bytes.now l c.in-Asks.target c.run.at (set c.run.seen.items c.run.node (c.run.at + 1))) (sym c.in_ok-push_call-in-Asks.ensures) (asks _ _ _ _ _ _ _ _ turning c.in-Asks.target c.in-Asks.host c.in-Asks.ensures.turn (c.in-Asks.ensures.leads _ _ (fits_here _ _ _ _ _ _ _ _ turning c.nodes-nodes.ensures.well_formed))).0; same = c.run.invariant.same }
+
+pub returns-in-Waits-clause-run : goal.returns-in-Waits-clause-run
+returns-in-Waits-clause-run c =
+    let turning = turning_from _ _ _ _ _ _ _ c.index-nodes-node.result _ _ c.run.invariant.come c.run.invariant.same c.index.ensures c.if-index-at.false c.byte_at-next.ensures in
+    waits_there _ _ _ _ _ _ _ _ turning _ c.in-Waits.ensures.turn c.of.ensures (refl, refl) refl
+
+pub returns-in-Breaks-clause-run : goal.returns-in-Breaks-clause-run
+returns-in-Breaks-clause-run c =
+    let turning = turning_from _ _ _ _ _ _ _ c.index-nodes-node.result _ _ c.run.invariant.come c.run.invariant.same c.index.ensures c.if-index-at.false c.byte_at-next.ensures in
+    breaks_there _ _ _ _ _ _ _ _ turning _ c.in-Breaks.code c.in-Breaks.ensures.turn c.of-in-Breaks.ensures (refl, refl) refl
+

@@ -1,0 +1,31 @@
+// Laws over the definitions, each the contract of a function without code.
+ghost use Rattle.std.specs.Prelude.{◌≡◌, ℕ, ◌+◌, List, Option, Some};
+ghost use Rattle.pp_graph.specs.Plan.{Plan};
+ghost use Rattle.pp_mean.specs.Chain.{run_for};
+ghost use Rattle.pp_mean.specs.Run.{Oracle, Stage, Result, move};
+ghost use Rattle.pp_mean.specs.Nodes.{graph_turn};
+ghost use Rattle.pp_mean.specs.Mean.{Means};
+ghost use Rattle.pp_mean.specs.Whole.{ComesBack, IsRun};
+ghost use Rattle.pp_mean.specs.declared.whole.WholeRun.{WholeRun};
+
+/// A graph has at most one run on a string, whatever the values and answers.
+pub fn at_most_one_run()
+    ensures { (g : Plan) (values bytes : List ℕ) (oracle : Oracle) (r q : Result) →
+        Means g values bytes oracle r → Means g values bytes oracle q → r ≡ q }
+{
+}
+
+/// More moves never change a run that has ended.
+pub fn more_moves()
+    ensures { (g : Plan) (oracle : Oracle) (more n : ℕ) (s : Stage) (r : Result) →
+        run_for (move (graph_turn g) oracle) n s ≡ Some r →
+        run_for (move (graph_turn g) oracle) (more + n) s ≡ Some r }
+{
+}
+
+/// A run that ends comes to no node twice at one place, so `run_whole` answers one or the other.
+pub fn run_or_loop()
+    ensures { (g : Plan) (bytes : List ℕ) (w : WholeRun) (node : ℕ) (byte : Option ℕ) →
+        IsRun g bytes w → ComesBack g bytes node byte → ⊥ }
+{
+}
