@@ -1,0 +1,15 @@
+-- The statements that the reader finds, as builder calls.
+use Rattle.std.specs.Prelude.{ℕ, [], ◌∷◌, None, false}
+use Rattle.pp_graph.specs.declared.call.BuilderCall.{BuilderCall}
+use Rattle.pp_graph.specs.declared.call.BuilderCall.TheVariants as call
+use Rattle.pp_graph.specs.Calls.{named_kind}
+use Rattle.pp_tool.specs.declared.statement.Statement.{Statement}
+use Rattle.pp_tool.specs.declared.statement.Statement.TheVariants as found
+
+-- the call that a statement stands for
+abbrev pub call_of : Statement → BuilderCall
+call_of (found.Host name) = call.Host name.now false
+call_of (found.Entry node) = call.Entry node.now
+call_of (found.Node name what) = call.Node name.now (named_kind what)
+call_of (found.Key byte target) = call.Key (byte ∷ []) None target.now
+call_of (found.Otherwise skip target) = call.Otherwise skip target.now

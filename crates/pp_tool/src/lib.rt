@@ -1,0 +1,16 @@
+//! The command: words, an input, an output and a sink for lines on errors, and the status that it ends with.
+#![tactic(auto)]
+
+mod capture;
+mod graph_text;
+mod input;
+mod judge;
+mod report;
+mod statement;
+mod status;
+mod tool;
+mod words;
+
+pub use status::Status;
+pub use tool::tool;
+pub use words::WordList;
