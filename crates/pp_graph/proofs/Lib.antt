@@ -1,0 +1,5 @@
+pub mod CallLemmas
+pub mod RuleLemmas
+pub mod TableLemmas
+pub mod SoundLemmas
+pub mod WellFormedLemmas

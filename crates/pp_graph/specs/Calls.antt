@@ -1,5 +1,5 @@
 -- The calls of a builder: their form, the node that was added last, and the calls that belong to a node.
-use Rattle.std.specs.Prelude.{◌≡◌, ℕ, List, [], ◌∷◌, Option, Some, Bool, true, false, fold, filter_map, slice_get, if◌then◌else◌}
+use Rattle.std.specs.Prelude.{◌≡◌, ℕ, ◌<◌, ◌^◌, length, List, [], ◌∷◌, Option, Some, Bool, true, false, fold, filter_map, slice_get, if◌then◌else◌}
 use Rattle.std.specs.Prelude.{None as none}
 use Rattle.pp_graph.specs.declared.call.CodeText.{CodeText}
 use Rattle.pp_graph.specs.declared.call.CodeText.TheVariants as code_text
@@ -51,11 +51,11 @@ last_of (kind.Invoke what) = last.Invoke
 last_of (kind.Fail number reason) = last.Fail
 
 abbrev pub last_after : LastNode → BuilderCall → LastNode
-last_after node (call.Host name value) = node
-last_after node (call.Entry name) = node
-last_after node (call.Node name what) = last_of what
-last_after node (call.Key bytes number target) = node
-last_after node (call.Otherwise skip target) = node
+last_after before (call.Host name value) = before
+last_after before (call.Entry name) = before
+last_after before (call.Node name what) = last_of what
+last_after before (call.Key bytes number target) = before
+last_after before (call.Otherwise skip target) = before
 
 -- the node that was added last
 abbrev pub last_node : List BuilderCall → LastNode
@@ -71,6 +71,14 @@ otherwise_after has (call.Otherwise skip target) = true
 -- whether the node that was added last has an otherwise
 abbrev pub has_otherwise : List BuilderCall → Bool
 has_otherwise calls = fold otherwise_after false calls
+
+-- what a builder keeps of its calls: each has its form, a u32 numbers them, and it knows the node that was added
+-- last and whether that has an otherwise
+pub record IsRecord (calls : List BuilderCall) (last : LastNode) (closed : Bool) : Type 0 where
+  pub forms : HaveForm calls
+  pub few : length calls < 2 ^ 32
+  pub knows_last : last ≡ last_node calls
+  pub knows_otherwise : closed ≡ has_otherwise calls
 
 -- a node that may have an otherwise: a match or an invoke for a plain one, a match alone for a skip
 abbrev pub TakesOtherwise : LastNode → Bool → Type 0

@@ -39,15 +39,15 @@ pub struct GraphBuilder {
 }
 
 impl Model for GraphBuilder {
-    ghost use Rattle.std.specs.Prelude.{List, ◌≡◌};
+    ghost use Rattle.std.specs.Prelude.{List};
     ghost use Rattle.pp_graph.specs.declared.call.BuilderCall.{BuilderCall};
-    ghost use Rattle.pp_graph.specs.Calls.{HaveForm, last_node, has_otherwise};
+    ghost use Rattle.pp_graph.specs.Calls.{IsRecord};
 
     ghost Value = { List BuilderCall };
 
     ghost view = { λ b. b.calls.items };
 
-    ghost invariant = { λ b. HaveForm b.calls.items × (b.last ≡ last_node b.calls.items) × (b.closed ≡ has_otherwise b.calls.items) };
+    ghost invariant = { λ b. IsRecord b.calls.items b.last b.closed };
 }
 
 impl GraphBuilder {

@@ -9,6 +9,8 @@ mod graph;
 mod name;
 mod node;
 mod rules;
+#[cfg(test)]
+mod tests;
 mod whole;
 
 pub use builder::{GraphBuilder, LastNode};

@@ -1,6 +1,7 @@
 // Names and reasons.
 ghost use Rattle.std.specs.Prelude.{◌≡◌, ◌≤◌, length, IfOk};
-ghost use Rattle.pp_graph.specs.Names.{is_name as is_name_of, is_reason as is_reason_of};
+ghost use Rattle.pp_graph.specs.Names.{is_name as is_name_of, is_reason as is_reason_of, begins_name as begins_name_of, continues_name, is_plain_byte};
+ghost use Rattle.std.specs.List.{list_all};
 
 use std::alloc::{AllocError, Global};
 use std::marker::Model;
@@ -85,21 +86,38 @@ pub fn is_name(bytes: &[u8]) -> bool
 {
     match bytes {
         [] => false,
-        [first, rest @ ..] => {
-            (first.is_ascii_alphabetic() || *first == b'_')
-                && rest.iter().all(|b| b.is_ascii_alphanumeric() || *b == b'_')
-                && rest.len() <= 31
-        }
+        [first, rest @ ..] => begins_name(*first) && continue_name(rest) && rest.len() <= 31,
     }
+}
+
+// A letter or an underscore.
+fn begins_name(byte: u8) -> bool
+    ensures { result ≡ begins_name_of byte }
+{
+    byte.is_ascii_alphabetic() || byte == b'_'
+}
+
+// Letters, digits and underscores alone.
+fn continue_name(bytes: &[u8]) -> bool
+    ensures { result ≡ list_all continues_name bytes.now }
+{
+    bytes
+        .iter()
+        .all(|b| b.is_ascii_alphanumeric() || *b == b'_')
 }
 
 /// Whether the bytes have the form of a reason.
 pub fn is_reason(bytes: &[u8]) -> bool
     ensures { result ≡ is_reason_of bytes.now }
 {
-    1 <= bytes.len()
-        && bytes.len() <= 80
-        && bytes
-            .iter()
-            .all(|b| 0x20 <= *b && *b <= 0x7e && *b != b'"' && *b != b'\\')
+    1 <= bytes.len() && bytes.len() <= 80 && are_plain(bytes)
+}
+
+// Bytes from 0x20 to 0x7e other than the double quote and the backslash alone.
+fn are_plain(bytes: &[u8]) -> bool
+    ensures { result ≡ list_all is_plain_byte bytes.now }
+{
+    bytes
+        .iter()
+        .all(|b| 0x20 <= *b && *b <= 0x7e && *b != b'"' && *b != b'\\')
 }

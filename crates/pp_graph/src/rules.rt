@@ -1,6 +1,6 @@
 // The rules, tried over the calls in order.
 ghost use Rattle.std.specs.Prelude.{◌≡◌, ◌<◌, ◌≤◌, ℕ, length, IsNone, IfSome};
-ghost use Rattle.pp_graph.specs.Rules.{KeepsRules, IsFirstFault, Keeps, FailsAt, fails_at as fails_at_of, fails_at_end as fails_at_end_of, is_duplicate as is_duplicate_of, names_unknown as names_unknown_of, asks_unknown as asks_unknown_of, lacks_otherwise as lacks_otherwise_of, is_clash as is_clash_of, passes_limit as passes_limit_of};
+ghost use Rattle.pp_graph.specs.Rules.{KeepsRules, IsFirstFault, Keeps, FailsAt, fails as fails_of, fails_at as fails_at_of, fails_at_end as fails_at_end_of, is_duplicate as is_duplicate_of, names_unknown as names_unknown_of, asks_unknown as asks_unknown_of, lacks_otherwise as lacks_otherwise_of, is_clash as is_clash_of, passes_limit as passes_limit_of};
 
 use crate::asked::{
     has_entry, has_host, has_key, has_node, has_own_otherwise, host_count, is_too_heavy, key_count,
@@ -60,13 +60,24 @@ fn fails_at(rule: GraphRule, calls: &[BuilderCall], i: usize) -> bool
     requires { i < length calls.now }
     ensures { result ≡ fails_at_of rule calls.now i }
 {
-    let before = &calls[..i];
-    let call = &calls[i];
+    fails(rule, calls, &calls[..i], &calls[i], &calls[i + 1..])
+}
+
+// Whether a rule fails at a call, with all the calls, those before it and those behind it.
+fn fails(
+    rule: GraphRule,
+    calls: &[BuilderCall],
+    before: &[BuilderCall],
+    call: &BuilderCall,
+    after: &[BuilderCall],
+) -> bool
+    ensures { result ≡ fails_of rule calls.now before.now call.now after.now }
+{
     match rule {
         GraphRule::DuplicateName => is_duplicate(before, call),
         GraphRule::UnknownName => names_unknown(calls, call),
         GraphRule::NoEntry => false,
-        GraphRule::NoOtherwise => lacks_otherwise(call, &calls[i + 1..]),
+        GraphRule::NoOtherwise => lacks_otherwise(call, after),
         GraphRule::KeyClash => is_clash(before, call),
         GraphRule::TooMany => passes_limit(before, call),
     }

@@ -15,6 +15,7 @@ use std::alloc::{AllocError, Global};
 pub(crate) fn build(alloc: Global, calls: &[BuilderCall]) -> Result<Graph, AllocError>
     requires rules { KeepsRules calls.now }
     requires forms { HaveForm calls.now }
+    requires small { length calls.now < 2 ^ 32 }
     ensures { IfOk result (λ graph. graph ≡ built calls.now) }
 {
     let hosts = hosts_of(alloc, calls)?;
@@ -41,7 +42,7 @@ fn hosts_of(alloc: Global, calls: &[BuilderCall]) -> Result<Vec<HostDecl>, Alloc
 
 // The nodes in order, each with the calls that belong to it.
 fn nodes_of(alloc: Global, calls: &[BuilderCall]) -> Result<Vec<Node>, AllocError>
-    requires { length (node_names calls.now) < 2 ^ 32 }
+    requires { length calls.now < 2 ^ 32 }
     ensures { IfOk result (λ nodes. nodes.items ≡ nodes_in (host_names calls.now) (node_names calls.now) calls.now) }
 {
     let mut nodes = Vec::new(alloc);
@@ -62,6 +63,7 @@ fn kind_of(
     kind: &NamedKind,
     after: &[BuilderCall],
 ) -> Result<Kind, AllocError>
+    requires { length calls.now < 2 ^ 32 }
     ensures { IfOk result (λ built. built ≡ kind_in (host_names calls.now) (node_names calls.now) kind.now (own_calls after.now)) }
 {
     match kind {
@@ -90,6 +92,7 @@ fn keys_of(
     calls: &[BuilderCall],
     after: &[BuilderCall],
 ) -> Result<Vec<Key>, AllocError>
+    requires { length calls.now < 2 ^ 32 }
     ensures { IfOk result (λ keys. keys.items ≡ filter_map (key_edge (node_names calls.now)) (own_calls after.now)) }
 {
     let mut keys = Vec::new(alloc);
@@ -116,6 +119,7 @@ fn keys_of(
 
 // The first otherwise among the calls up to the next node.
 fn otherwise_of(calls: &[BuilderCall], after: &[BuilderCall]) -> Other
+    requires { length calls.now < 2 ^ 32 }
     ensures { result ≡ or_nowhere (otherwise_in (node_names calls.now) (own_calls after.now)) }
 {
     for call in after {
@@ -138,6 +142,7 @@ fn otherwise_of(calls: &[BuilderCall], after: &[BuilderCall]) -> Other
 
 // The node that the first entry call names.
 fn entry_of(calls: &[BuilderCall]) -> u32
+    requires { length calls.now < 2 ^ 32 }
     ensures { result ≡ entry_in (node_names calls.now) calls.now }
 {
     for call in calls {
@@ -150,12 +155,13 @@ fn entry_of(calls: &[BuilderCall]) -> u32
 
 // The place of the node of this name among the nodes.
 fn node_place(calls: &[BuilderCall], name: &Name) -> u32
+    requires { length calls.now < 2 ^ 32 }
     ensures { result ≡ place_of (node_names calls.now) name.now }
 {
     let mut place = 0;
     for call in calls {
         if let BuilderCall::Node { name: other, .. } = call {
-            if other.bytes() == name.bytes() {
+            if name.bytes() == other.bytes() {
                 return place;
             }
             place += 1;
@@ -166,12 +172,13 @@ fn node_place(calls: &[BuilderCall], name: &Name) -> u32
 
 // The place of the host of this name among the hosts.
 fn host_place(calls: &[BuilderCall], name: &Name) -> u32
+    requires { length calls.now < 2 ^ 32 }
     ensures { result ≡ place_of (host_names calls.now) name.now }
 {
     let mut place = 0;
     for call in calls {
         if let BuilderCall::Host { name: other, .. } = call {
-            if other.bytes() == name.bytes() {
+            if name.bytes() == other.bytes() {
                 return place;
             }
             place += 1;

@@ -1,4 +1,5 @@
 pub mod ChainLaws
+pub mod EachLemmas
 pub mod PlainLaws
 pub mod WholeLaws
 mod Rows

@@ -28,7 +28,7 @@ begins-drop (b ∷ bytes) (suc at) = begins-drop bytes at
 
 -- where the code stands
 abbrev pub config_at : ℕ → ℕ → Config
-config_at node at = record { node = node; at = at; carried = 0; values = []} 
+config_at node at = record { node = node; at = at; carried = 0; values = [] }
 
 abbrev pub stage_at : List ℕ → List Item → ℕ → ℕ → Stage
 stage_at bytes items node at = record { config = config_at node at; rest = drop at bytes; items = items }

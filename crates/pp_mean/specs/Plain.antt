@@ -19,6 +19,9 @@ IsPlainKind (Match keys other) = ArePlainKeys keys
 IsPlainKind (Invoke what other) = Unit {0}
 IsPlainKind (Fail number reason) = Unit {0}
 
+abbrev pub ArePlainNodes : List Node → Type 0
+ArePlainNodes nodes = (i : ℕ) (n : Node) → slice_get nodes i ≡ Some n → IsPlainKind n.kind
+
 -- a plain graph: each node is plain
 abbrev pub IsPlain : Plan → Type 0
-IsPlain g = (i : ℕ) (n : Node) → slice_get g.nodes i ≡ Some n → IsPlainKind n.kind
+IsPlain g = ArePlainNodes g.nodes

@@ -12,20 +12,17 @@ ghost use Rattle.pp_mean.specs.declared.whole.WholeRun.{WholeRun};
 pub fn at_most_one_run()
     ensures { (g : Plan) (values bytes : List ℕ) (oracle : Oracle) (r q : Result) →
         Means g values bytes oracle r → Means g values bytes oracle q → r ≡ q }
-{
-}
+{}
 
 /// More moves never change a run that has ended.
 pub fn more_moves()
     ensures { (g : Plan) (oracle : Oracle) (more n : ℕ) (s : Stage) (r : Result) →
         run_for (move (graph_turn g) oracle) n s ≡ Some r →
         run_for (move (graph_turn g) oracle) (more + n) s ≡ Some r }
-{
-}
+{}
 
 /// A run that ends comes to no node twice at one place, so `run_whole` answers one or the other.
 pub fn run_or_loop()
     ensures { (g : Plan) (bytes : List ℕ) (w : WholeRun) (node : ℕ) (byte : Option ℕ) →
         IsRun g bytes w → ComesBack g bytes node byte → ⊥ }
-{
-}
+{}

@@ -85,4 +85,4 @@ Reports bytes before after = (held : List ℕ) → before ≡ Some held →
 -- or the front of it
 abbrev pub ReportsSome : List ℕ → Option (List ℕ) → Option (List ℕ) → Type 0
 ReportsSome bytes before after = (held : List ℕ) → before ≡ Some held →
-    (report : List ℕ) (n : ℕ) × HasReport bytes report × (n ≤ length report) × (after ≡ Some (held ++ take n report))
+    (report : List ℕ) × (n : ℕ) × HasReport bytes report × (n ≤ length report) × (after ≡ Some (held ++ take n report))

@@ -37,7 +37,10 @@ pub(crate) fn read_capture(alloc: Global, bytes: &[u8]) -> Result<Vec<u8>, Captu
         all.extend_from_slice(part)?;
         rest = after;
     }
-    if rest == &[5] { Ok(all) } else { Err(CaptureFault::Refused) }
+    match rest {
+        [5] => Ok(all),
+        _ => Err(CaptureFault::Refused),
+    }
 }
 
 // The part of the packet that begins the bytes, and what follows it.

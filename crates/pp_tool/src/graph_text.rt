@@ -67,7 +67,7 @@ fn read_statements(builder: &mut GraphBuilder, bytes: &[u8]) -> Result<usize, Te
     let mut at: usize = 0;
     while let Some(line) = line_in(&bytes[at..]) {
         at += line.len() + 1;
-        if line == b"end" {
+        if line == b"end".as_slice() {
             return Ok(at);
         }
         let Some(statement) = read_statement(line) else {

@@ -1,5 +1,5 @@
 // The input, taken whole.
-ghost use Rattle.std.specs.Prelude.{◌≡◌, ◌<◌, ◌≤◌, List, ℕ, Some, [], length, IfOk};
+ghost use Rattle.std.specs.Prelude.{◌≡◌, ◌<◌, ◌≤◌, List, ℕ, Some, [], length, IfOk, OnOk};
 ghost use Rattle.pp_outside.specs.Faults.{Rose};
 ghost use Rattle.pp_tool.specs.Input.{limit};
 

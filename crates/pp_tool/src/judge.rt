@@ -2,7 +2,7 @@
 ghost use Rattle.std.specs.Prelude.{◌≡◌, ◌≤◌, List, ℕ, length, IfOk, IfErr};
 ghost use Rattle.pp_graph.specs.declared.call.BuilderCall.{BuilderCall};
 ghost use Rattle.pp_tool.specs.Input.{BeginsWithGraph, HasReport, limit};
-ghost use Rattle.pp_tool.specs.Judged.{IsRefusal, Fits};
+ghost use Rattle.pp_tool.specs.Judged.{IsRefusal, Fits, status_of};
 
 use crate::capture::{CaptureFault, read_capture};
 use crate::graph_text::{TextFault, read_graph};

@@ -2,15 +2,15 @@
 #![tactic(auto)]
 
 mod capture;
+mod command;
 mod graph_text;
 mod input;
 mod judge;
 mod report;
 mod statement;
 mod status;
-mod tool;
 mod words;
 
+pub use command::tool;
 pub use status::Status;
-pub use tool::tool;
 pub use words::WordList;

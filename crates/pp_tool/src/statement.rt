@@ -1,12 +1,15 @@
 // One statement of a graph text.
-ghost use Rattle.std.specs.Prelude.{◌≡◌, IfSome, IsSomeAnd};
+ghost use Rattle.std.specs.Prelude.{◌≡◌, ◌<◌, ◌^◌, ℕ, Some, decimal, IfSome, IsSomeAnd};
 ghost use Rattle.pp_graph.specs.declared.call.BuilderCall.{BuilderCall};
+ghost use Rattle.pp_graph.specs.Names.{is_plain_byte as is_plain_byte_of};
 ghost use Rattle.pp_tool.specs.GraphText.{IsStatement};
 ghost use Rattle.pp_tool.specs.Statements.{call_of};
 
+use pp_bytes::read_number;
 use pp_graph::{CodeText, KindText, is_name, is_reason};
 
 /// A statement with the parts of its line.
+#[derive(Drop)]
 pub(crate) enum Statement<'t> {
     Host { name: &'t str },
     Entry { node: &'t str },
@@ -67,7 +70,7 @@ fn node_in(rest: &[u8]) -> Option<Statement<'_>> {
 
 // What a node does: `match`, `call` and a host, or `error`, a code and a reason in quotes.
 fn kind_in(text: &[u8]) -> Option<KindText<'_>> {
-    if text == b"match" {
+    if text == b"match".as_slice() {
         return Some(KindText::Match);
     }
     if let Some(host) = text.strip_prefix(b"call ") {
@@ -95,8 +98,23 @@ fn fail_in(rest: &[u8]) -> Option<KindText<'_>> {
 fn key_in(rest: &[u8]) -> Option<Statement<'_>> {
     let (byte, rest) = rest.split_first()?;
     let target = name_in(rest.strip_prefix(b"\" -> ")?)?;
-    is_key_byte(*byte).then_some(Statement::Key {
+    is_plain_byte(*byte).then_some(Statement::Key {
         byte: *byte,
         target,
     })
+}
+
+// Whether a byte may stand between quotes as it is.
+fn is_plain_byte(b: u8) -> bool
+    ensures { result ≡ is_plain_byte_of b }
+{
+    0x20 <= b && b <= 0x7e && b != b'"' && b != b'\\'
+}
+
+// A decimal number of 32 bits, without leading zeros.
+fn code_in(bytes: &[u8]) -> Option<u32>
+    ensures found { IfSome result (λ n. bytes.now ≡ decimal n) }
+    ensures only { (n : ℕ) → n < 2 ^ 32 → bytes.now ≡ decimal n → result ≡ Some n }
+{
+    u32::try_from(read_number(bytes)?).ok()
 }

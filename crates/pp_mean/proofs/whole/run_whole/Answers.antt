@@ -42,4 +42,3 @@ pub returns-in-Breaks-clause-run : goal.returns-in-Breaks-clause-run
 returns-in-Breaks-clause-run c =
     let turning = turning_from _ _ _ _ _ _ _ c.index-nodes-node.result _ _ c.run.invariant.come c.run.invariant.same c.index.ensures c.if-index-at.false c.byte_at-next.ensures in
     breaks_there _ _ _ _ _ _ _ _ turning _ c.in-Breaks.code c.in-Breaks.ensures.turn c.of-in-Breaks.ensures (refl, refl) refl
-

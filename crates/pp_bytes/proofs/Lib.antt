@@ -1,0 +1,5 @@
+pub mod NumberLemmas
+pub mod NumberRows
+pub mod RangesLemmas
+pub mod RunLemmas
+pub mod TableLemmas

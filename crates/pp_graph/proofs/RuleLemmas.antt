@@ -1,0 +1,54 @@
+-- Where a rule fails: at a call inside the list, and at its end.
+use Rattle.std.proofs.Common.{◌≡◌, ℕ, ◌+◌, ◌<◌, ◌≤◌, suc, zero, List, [], ◌∷◌, ◌++◌, Bool, true, false, ◌==◌, length, slice_get, take, drop, get_or, Some, refl, sym, ◌∙◌, subst, arith, add-one}
+use Rattle.std.specs.Prelude.{None as none}
+use Rattle.std.proofs.lemmas.Option.{slice_get_read, slice_get_past}
+use Rattle.std.proofs.lemmas.List.{take_at}
+use Rattle.std.proofs.lemmas.Bool.Decides.{nat_tests}
+use Rattle.pp_graph.specs.declared.call.BuilderCall.{BuilderCall}
+use Rattle.pp_graph.specs.declared.fault.GraphRule.{GraphRule}
+use Rattle.pp_graph.specs.Rules.{fails, fails_at, fails_at_end, Keeps}
+
+-- at the call of a number
+pub fails_at-within : (rule : GraphRule) (calls : List BuilderCall) (i : ℕ) (c : BuilderCall) → i < length calls → c ≡ get_or calls i c → fails_at rule calls i ≡ fails rule calls (take i calls) c (drop (i + 1) calls)
+fails_at-within rule calls i c h e =
+    let at : slice_get calls i ≡ Some c = slice_get_read calls (length calls) i c refl h e in
+    rw (at, add-one) refl
+
+-- the call behind these
+pub slice_get-split : (before : List BuilderCall) (c : BuilderCall) (after : List BuilderCall) → slice_get (before ++ c ∷ after) (length before) ≡ Some c
+slice_get-split [] c after = refl
+slice_get-split (b ∷ before) c after = slice_get-split before c after
+
+-- what stands behind that call
+pub drop-split : (before : List BuilderCall) (c : BuilderCall) (after : List BuilderCall) → drop (suc (length before)) (before ++ c ∷ after) ≡ after
+drop-split [] c after = refl
+drop-split (b ∷ before) c after = drop-split before c after
+
+-- at the call behind these
+pub fails_at-split : (rule : GraphRule) (before : List BuilderCall) (c : BuilderCall) (after : List BuilderCall) → fails_at rule (before ++ c ∷ after) (length before) ≡ fails rule (before ++ c ∷ after) before c after
+fails_at-split rule before c after =
+    rw (slice_get-split before c after, take_at before (c ∷ after) (length before) refl, drop-split before c after) refl
+
+-- at the end
+pub fails_at-length : (rule : GraphRule) (calls : List BuilderCall) → fails_at rule calls (length calls) ≡ fails_at_end rule calls
+fails_at-length rule calls =
+    let at : slice_get calls (length calls) ≡ none = slice_get_past calls (length calls) (omega arith) in
+    let same : (length calls == length calls) ≡ true = grind (arith, nat_tests) in
+    rw (at, same) refl
+
+-- a test that is not true is false
+pub false_from_not : (b : Bool) → ¬ (b ≡ true) → b ≡ false
+false_from_not true h = absurd (h refl)
+false_from_not false h = refl
+
+-- a rule that is kept does not fail at a call
+pub kept-at : (rule : GraphRule) (all before : List BuilderCall) (c : BuilderCall) (after : List BuilderCall) → all ≡ before ++ c ∷ after → Keeps all rule → fails rule all before c after ≡ false
+kept-at rule all before c after e k =
+    let P : List BuilderCall → Type 0 = λ xs. fails rule xs before c after ≡ true → fails_at rule xs (length before) ≡ true in
+    let there : P all = subst P (sym e) (λ t. fails_at-split rule before c after ∙ t) in
+    false_from_not (fails rule all before c after) (λ t. k (length before) (there t))
+
+-- nor at the end
+pub kept-at_end : (rule : GraphRule) (calls : List BuilderCall) → Keeps calls rule → fails_at_end rule calls ≡ false
+kept-at_end rule calls k =
+    false_from_not (fails_at_end rule calls) (λ t. k (length calls) (fails_at-length rule calls ∙ t))

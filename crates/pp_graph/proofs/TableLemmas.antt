@@ -1,0 +1,58 @@
+-- Tables of names: names that differ, and the place of one among them.
+use Rattle.std.proofs.Common.{◌≡◌, ◌≢◌, ℕ, ◌+◌, ◌<◌, ◌≤◌, suc, zero, List, [], ◌∷◌, ◌++◌, Bool, true, false, not, cond, ◌||◌, length, slice_get, get_or, Some, refl, sym, ◌∙◌, subst, arith}
+use Rattle.std.specs.Prelude.{bytes_eq}
+use Rattle.std.specs.List.{list_any}
+use Rattle.std.proofs.lemmas.Bool.{false≢true}
+use Rattle.std.proofs.lemmas.Bool.Decides.{same_from_decides, Decides-like}
+use Rattle.std.proofs.lemmas.List.{length_push}
+use Rattle.std.proofs.lemmas.List.Folds.{list_any_at}
+use Rattle.std.proofs.lemmas.List.Quantifiers.{all_pairs_push}
+use Rattle.std.proofs.lemmas.Slice.Eq.{bytes_eq-Decides}
+use Rattle.pp_graph.specs.Plan.{AreDistinct}
+use Rattle.pp_graph.specs.Built.{place_of}
+
+-- it holds of each element
+abbrev pub Each : {X : Type 0} → (X → Type 0) → List X → Type 0
+Each P [] = Unit {0}
+Each P (x ∷ xs) = P x × Each P xs
+
+-- so it holds of the element at a place
+pub each-at : {X : Type 0} (P : X → Type 0) (xs : List X) → Each P xs → (i : ℕ) (x : X) → slice_get xs i ≡ Some x → P x
+each-at P [] s i x e = absurd cc
+each-at P (y ∷ ys) s zero x e = let same : y ≡ x = cc in subst P same s.0
+each-at P (y ∷ ys) s (suc i) x e = each-at P ys s.1 i x e
+
+-- whether one of these names is equal to the name
+abbrev pub has_name : List (List ℕ) → List ℕ → Bool
+has_name names name = list_any (λ (other : List ℕ). bytes_eq other name) names
+
+-- names that differ, at most so many
+pub record IsTable (limit : ℕ) (names : List (List ℕ)) : Type 0 where
+  pub distinct : AreDistinct names
+  pub few : length names ≤ limit
+
+pub IsTable-nil : (limit : ℕ) → IsTable limit []
+IsTable-nil limit = record { distinct = λ i j d p q. absurd (omega arith); few = omega arith }
+
+-- one more name, which none of them is equal to
+pub IsTable-push : (limit : ℕ) (names : List (List ℕ)) (name : List ℕ) → IsTable limit names → has_name names name ≡ false → length names < limit → IsTable limit (names ++ name ∷ [])
+IsTable-push limit names name t new room =
+    let test : List ℕ → Bool = λ other. bytes_eq other name in
+    record {
+      distinct = all_pairs_push ◌≢◌ names name t.distinct (λ k d h e. false≢true (sym new ∙ list_any_at test names k d h ((bytes_eq-Decides (get_or names k d) name).1 e)));
+      few = omega (arith, length_push names name);
+    }
+
+bytes_eq-comm : (a b : List ℕ) → bytes_eq a b ≡ bytes_eq b a
+bytes_eq-comm a b =
+    same_from_decides (bytes_eq a b) (bytes_eq b a) (bytes_eq-Decides a b) (Decides-like (bytes_eq b a) sym sym (bytes_eq-Decides b a))
+
+place-step : (b : Bool) (n m : ℕ) → (b ≡ false → n < m) → cond (not b) (1 + n) 0 < suc m
+place-step true n m f = omega arith
+place-step false n m f = let below : n < m = f refl in omega arith
+
+-- a name that is there has its place below their count
+pub place_of-below : (names : List (List ℕ)) (name : List ℕ) → has_name names name ≡ true → place_of names name < length names
+place_of-below [] name h = absurd (false≢true h)
+place_of-below (other ∷ names) name h =
+    place-step (bytes_eq name other) (place_of names name) (length names) (λ e. place_of-below names name (let apart : bytes_eq other name ≡ false = bytes_eq-comm other name ∙ e in rw apart at h))

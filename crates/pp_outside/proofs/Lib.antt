@@ -1,0 +1,3 @@
+pub mod AddsLemmas
+pub mod MovesLemmas
+pub mod TakeLemmas
