@@ -1,7 +1,7 @@
 // The capture of one connection behind a graph text.
-ghost use Rattle.std.specs.Prelude.{◌≡◌, List, ℕ, IfOk, MatchResult, Ok, Err};
+ghost use Rattle.std.specs.Prelude.{◌≡◌, ◌++◌, ◌≤◌, List, ℕ, length, IfOk, IfSome, IsSome, MatchResult};
 ghost use Rattle.pp_tool.specs.declared.capture.CaptureFault.TheVariants.{NoMemory as no_memory};
-ghost use Rattle.pp_tool.specs.Capture.{joined};
+ghost use Rattle.pp_tool.specs.Capture.{packet, packets_of, ArePackets, joined};
 ghost use Rattle.pp_tool.specs.Input.{IsCapture};
 
 use std::alloc::{AllocError, Global};
@@ -29,10 +29,20 @@ pub(crate) fn read_capture(alloc: Global, bytes: &[u8]) -> Result<Vec<u8>, Captu
     ensures only { (parts : List (List ℕ)) → IsCapture bytes.now parts →
         MatchResult result (λ v. v.items ≡ joined parts) (λ e. e ≡ no_memory) }
 {
-    let Some(mut rest) = bytes.strip_prefix(&[1, 0, 0, 0, 0]) else {
+    let [1, 0, 0, 0, 0, records @ ..] = bytes else {
         return Err(CaptureFault::Refused);
     };
+    read_records(alloc, records)
+}
+
+// The joined parts of the records behind the beginning.
+fn read_records(alloc: Global, records: &[u8]) -> Result<Vec<u8>, CaptureFault>
+    ensures found { IfOk result (λ v. (parts : List (List ℕ)) × (records.now ≡ packets_of parts) × ArePackets parts × (v.items ≡ joined parts)) }
+    ensures only { (parts : List (List ℕ)) → records.now ≡ packets_of parts → ArePackets parts →
+        MatchResult result (λ v. v.items ≡ joined parts) (λ e. e ≡ no_memory) }
+{
     let mut all = Vec::new(alloc);
+    let mut rest = records;
     while let Some((part, after)) = packet_in(rest) {
         all.extend_from_slice(part)?;
         rest = after;
@@ -44,10 +54,17 @@ pub(crate) fn read_capture(alloc: Global, bytes: &[u8]) -> Result<Vec<u8>, Captu
 }
 
 // The part of the packet that begins the bytes, and what follows it.
-fn packet_in(bytes: &[u8]) -> Option<(&[u8], &[u8])> {
+fn packet_in(bytes: &[u8]) -> Option<(&[u8], &[u8])>
+    ensures found { IfSome result (λ p. (length p.0.now ≤ 65535) × (bytes.now ≡ packet p.0.now ++ p.1.now)) }
+    ensures only { (part rest : List ℕ) → length part ≤ 65535 → bytes.now ≡ packet part ++ rest → IsSome result }
+{
     let [2, 0, high, low, rest @ ..] = bytes else {
         return None;
     };
     let len = 256 * usize::from(*high) + usize::from(*low);
-    (len <= rest.len()).then(|| rest.split_at(len))
+    if len <= rest.len() {
+        Some(rest.split_at(len))
+    } else {
+        None
+    }
 }

@@ -1,8 +1,8 @@
 // The report of a run.
-ghost use Rattle.std.specs.Prelude.{◌≡◌, IfOk};
-ghost use Rattle.pp_mean.specs.Run.{Result as RunResult};
-ghost use Rattle.pp_mean.specs.Whole.{Shows};
-ghost use Rattle.pp_tool.specs.Report.{report_of};
+ghost use Rattle.std.specs.Prelude.{◌≡◌, ◌++◌, ℕ, decimal, slice_get, IfOk, OnOk};
+ghost use Rattle.pp_mean.specs.Run.{Finish, Result as RunResult};
+ghost use Rattle.pp_mean.specs.Whole.{IsEnd, Shows};
+ghost use Rattle.pp_tool.specs.Report.{name_of_host, name_of_node, reason_of, item_line, end_line, report_of};
 
 use itoa::Buffer;
 use pp_graph::{Graph, Kind};
@@ -22,7 +22,9 @@ pub(crate) fn report(alloc: Global, graph: &Graph, run: &WholeRun) -> Result<Vec
 }
 
 // The line of an item.
-fn push_item(out: &mut Vec<u8>, graph: &Graph, item: &Item) -> Result<(), AllocError> {
+fn push_item(out: &mut Vec<u8>, graph: &Graph, item: &Item) -> Result<(), AllocError>
+    ensures { OnOk result (out.new.items ≡ out.old.items ++ item_line graph.now item.now) }
+{
     match item {
         Item::Call {
             code,
@@ -46,7 +48,10 @@ fn push_item(out: &mut Vec<u8>, graph: &Graph, item: &Item) -> Result<(), AllocE
 }
 
 // The line of the end.
-fn push_end(out: &mut Vec<u8>, graph: &Graph, end: End, at: u64) -> Result<(), AllocError> {
+fn push_end(out: &mut Vec<u8>, graph: &Graph, end: End, at: u64) -> Result<(), AllocError>
+    ensures { (node : ℕ) (finish : Finish) → IsEnd end node finish →
+        OnOk result (out.new.items ≡ out.old.items ++ end_line graph.now node at finish) }
+{
     match end {
         End::Waits { node } => {
             out.extend_from_slice(b"0 wait ")?;
@@ -70,13 +75,17 @@ fn push_end(out: &mut Vec<u8>, graph: &Graph, end: End, at: u64) -> Result<(), A
 }
 
 // A number in decimal.
-fn push_number(out: &mut Vec<u8>, n: u64) -> Result<(), AllocError> {
+fn push_number(out: &mut Vec<u8>, n: u64) -> Result<(), AllocError>
+    ensures { OnOk result (out.new.items ≡ out.old.items ++ decimal n) }
+{
     let mut buffer = Buffer::new();
     out.extend_from_slice(buffer.format(n).as_bytes())
 }
 
 // The name of the host at a place, or nothing.
-fn host_name(graph: &Graph, host: u32) -> &[u8] {
+fn host_name(graph: &Graph, host: u32) -> &[u8]
+    ensures { result.now ≡ name_of_host (slice_get graph.now.hosts host) }
+{
     match graph.hosts().get(host as usize) {
         Some(decl) => decl.name.bytes(),
         None => &[],
@@ -84,7 +93,9 @@ fn host_name(graph: &Graph, host: u32) -> &[u8] {
 }
 
 // The name of the node at a place, or nothing.
-fn node_name(graph: &Graph, node: u32) -> &[u8] {
+fn node_name(graph: &Graph, node: u32) -> &[u8]
+    ensures { result.now ≡ name_of_node (slice_get graph.now.nodes node) }
+{
     match graph.nodes().get(node as usize) {
         Some(node) => node.name.bytes(),
         None => &[],
@@ -92,7 +103,9 @@ fn node_name(graph: &Graph, node: u32) -> &[u8] {
 }
 
 // The reason of the error node at a place, or nothing.
-fn reason(graph: &Graph, node: u32) -> &[u8] {
+fn reason(graph: &Graph, node: u32) -> &[u8]
+    ensures { result.now ≡ reason_of (slice_get graph.now.nodes node) }
+{
     match graph.nodes().get(node as usize) {
         Some(node) => match &node.kind {
             Kind::Fail { reason, .. } => reason.bytes(),
