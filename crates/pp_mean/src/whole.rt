@@ -1,8 +1,8 @@
 // The run of a plain graph on a whole string.
-ghost use Rattle.std.specs.Prelude.{◌≡◌, IfOk, IfErr, OnOk, slice_get, [], ◌∷◌, ◌++◌};
+ghost use Rattle.std.specs.Prelude.{◌≡◌, ℕ, Option, IfOk, IfErr, OnOk, slice_get, [], ◌∷◌, ◌++◌};
 ghost use Rattle.pp_mean.specs.declared.item.Item.TheVariants.{Call};
 ghost use Rattle.pp_mean.specs.Plain.{IsPlain};
-ghost use Rattle.pp_mean.specs.Whole.{IsRun, IsLoop};
+ghost use Rattle.pp_mean.specs.Whole.{IsRun, ComesBack, IsLoop};
 
 use crate::item::{Item, Props};
 use crate::step::{Step, step_of};
@@ -76,8 +76,8 @@ fn push_call(alloc: Global, items: &mut Vec<Item>, code: u32, at: u64) -> Result
 /// `Loop` comes exactly where this run comes to a node twice at one place.
 pub fn run_whole(alloc: Global, graph: &Graph, bytes: &[u8]) -> Result<WholeRun, MeanFault>
     requires { IsPlain graph.now }
-    // It is the run, and it comes to no node twice at one place.
     ensures run { IfOk result (IsRun graph.now bytes.now) }
+    ensures no_loop { OnOk result ((node : ℕ) (byte : Option ℕ) → ¬ (ComesBack graph.now bytes.now node byte)) }
     // Else the run comes to a node twice at one place, or memory runs out.
     ensures loops { IfErr result (IsLoop graph.now bytes.now) }
 {

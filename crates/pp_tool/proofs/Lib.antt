@@ -1,1 +1,5 @@
 pub mod CaptureLemmas
+pub mod JudgeLemmas
+pub mod StatementLemmas
+pub mod TextLemmas
+pub mod WordLemmas

@@ -1,10 +1,13 @@
 // The graph text that an input begins with.
-ghost use Rattle.std.specs.Prelude.{◌≡◌, ◌≤◌, ◌++◌, [], List, ℕ, length, drop, IfOk, MatchResult, Ok, Err};
+ghost use Rattle.std.specs.Prelude.{◌≡◌, ◌≢◌, ◌<◌, ◌≤◌, ◌↔◌, ◌++◌, ◌∷◌, [], List, ℕ, length, drop, IsTrue, IfOk, OnOk, MatchOption, MatchResult};
+ghost use Rattle.std.specs.List.{All};
 ghost use Rattle.pp_graph.specs.declared.call.BuilderCall.{BuilderCall};
+ghost use Rattle.pp_graph.specs.Calls.{HasForm, MayFollow, TakesOtherwise};
 ghost use Rattle.pp_graph.specs.Built.{built};
 ghost use Rattle.pp_tool.specs.declared.graph_text.TextFault.TheVariants.{NoMemory as no_memory};
 ghost use Rattle.pp_tool.specs.GraphText.{body_of, AreStatements};
 ghost use Rattle.pp_tool.specs.Input.{BeginsWithGraph, limit};
+ghost use Rattle.pp_tool.specs.Statements.{call_of};
 
 use crate::statement::{Statement, read_statement};
 use pp_graph::{Graph, GraphBuilder, GraphFault, LastNode, NoMemory};
@@ -82,13 +85,18 @@ fn read_statements(builder: &mut GraphBuilder, bytes: &[u8]) -> Result<usize, Te
 }
 
 // The bytes up to the first LF, if there is one.
-fn line_in(bytes: &[u8]) -> Option<&[u8]> {
+fn line_in(bytes: &[u8]) -> Option<&[u8]>
+    ensures { MatchOption result (All (λ b. b ≢ 10) bytes.now)
+        (λ line. (after : List ℕ) × (bytes.now ≡ line.now ++ 10 ∷ after) × All (λ b. b ≢ 10) line.now) }
+{
     let end = bytes.iter().position(|b| *b == b'\n')?;
     Some(&bytes[..end])
 }
 
 // Whether a statement may stand behind the calls so far.
-fn may_follow(builder: &GraphBuilder, statement: &Statement<'_>) -> bool {
+fn may_follow(builder: &GraphBuilder, statement: &Statement<'_>) -> bool
+    ensures { IsTrue result ↔ MayFollow builder.now (call_of statement.now) }
+{
     match statement {
         Statement::Key { .. } => builder.last_node() == LastNode::Match,
         Statement::Otherwise { skip, .. } => {
@@ -98,7 +106,10 @@ fn may_follow(builder: &GraphBuilder, statement: &Statement<'_>) -> bool {
     }
 }
 
-fn takes_otherwise(node: LastNode, skip: bool) -> bool {
+// Whether a node takes an otherwise, or a skip.
+fn takes_otherwise(node: LastNode, skip: bool) -> bool
+    ensures { IsTrue result ↔ TakesOtherwise node skip }
+{
     match node {
         LastNode::None | LastNode::Fail => false,
         LastNode::Match => true,
@@ -107,7 +118,12 @@ fn takes_otherwise(node: LastNode, skip: bool) -> bool {
 }
 
 // Adds the call of a statement.
-fn add(builder: &mut GraphBuilder, statement: Statement<'_>) -> Result<(), NoMemory> {
+fn add(builder: &mut GraphBuilder, statement: Statement<'_>) -> Result<(), NoMemory>
+    requires form { HasForm (call_of statement) }
+    requires follows { MayFollow builder.old (call_of statement) }
+    requires room { length builder.old < 4294967295 }
+    ensures { OnOk result (builder.new ≡ builder.old ++ call_of statement.entry ∷ []) }
+{
     match statement {
         Statement::Host { name } => builder.host(name, false),
         Statement::Entry { node } => builder.entry(node),
