@@ -1,30 +1,18 @@
 -- The runs of a set of bytes, found from the least byte on.
-use Rattle.std.proofs.Common.{◌≡◌, ℕ, zero, suc, ◌+◌, ◌-◌, ◌<◌, ◌≤◌, true, false, inl, inr, List, [], ◌∷◌, ◌++◌, length, get_or, take, ap, sym, ◌∙◌, refl, arith}
-use Rattle.std.proofs.lemmas.Bool.{and_parts, and_cases, and_from, not-true, not-false, both_ways, cases_lt, cases_Bool, false_from_ne_true, le-leb, or_left, or_right}
+use Rattle.std.proofs.Common.{◌≡◌, ℕ, zero, suc, ◌+◌, ◌<◌, ◌≤◌, true, false, inl, inr, List, [], ◌∷◌, ◌++◌, length, get_or, take, ap, sym, ◌∙◌, arith}
+use Rattle.std.proofs.lemmas.Bool.{and_cases, and_from, not-false, both_ways, cases_lt, cases_Bool, false_from_ne_true, le-leb, or_left, or_right}
 use Rattle.std.proofs.lemmas.List.{take_all, length_push}
-use Rattle.std.proofs.lemmas.List.Elements.{All-push, All-weaker}
+use Rattle.std.proofs.lemmas.List.Elements.{All-push}
 use Rattle.std.proofs.lemmas.List.Sums.{count_by_more_yes, count_by_more_no, sum_by-take-le}
 use Rattle.std.specs.List.{All, count_by}
 use Rattle.std.specs.Ordering.{nat_cmp}
 use Rattle.std.specs.FinSet.{FinSet, contains}
 use Rattle.pp_bytes.specs.Bytes.{all_bytes}
-use Rattle.pp_bytes.specs.Ranges.{in_ranges, CanFollow}
-use Rattle.pp_bytes.specs.Found.{HasRunsBelow}
-use Rattle.pp_bytes.specs.Runs.{begins_run, runs_of, EndsRun}
+use Rattle.pp_bytes.specs.Ranges.{in_ranges}
+use Rattle.pp_bytes.specs.Found.{EndsRun, HasRunsBelow}
+use Rattle.pp_bytes.specs.Runs.{begins_run, runs_of}
 use Rattle.pp_bytes.proofs.TableLemmas.{length-all_bytes, get_or-all_bytes}
 use Rattle.pp_bytes.proofs.RangesLemmas.{in_ranges-from_pair, pair_of_byte, in_ranges-push}
-
--- a byte at which a run begins is in the set
-pub begins_held : (bytes : FinSet nat_cmp) (b : ℕ) → begins_run bytes b ≡ true → contains bytes b ≡ true
-begins_held bytes zero begins = begins
-begins_held bytes (suc b) begins = (and_parts _ _ begins).0
-
--- the byte below is not
-begins_gap : (bytes : FinSet nat_cmp) (b a : ℕ) → begins_run bytes b ≡ true → a + 1 ≡ b → contains bytes a ≡ false
-begins_gap bytes zero a begins below = absurd (omega arith)
-begins_gap bytes (suc b) a begins below =
-    let same : a ≡ b = omega arith in
-    ap (contains bytes) same ∙ not-true _ (and_parts _ _ begins).1
 
 -- where no run begins at a byte of the set, the byte below is in the set too
 begins_not : (bytes : FinSet nat_cmp) (b : ℕ) → begins_run bytes b ≡ false → contains bytes b ≡ true → (a : ℕ) × (a + 1 ≡ b) × (contains bytes a ≡ true)
@@ -33,31 +21,6 @@ begins_not bytes (suc b) none held = elim (and_cases _ _ none) [
   | inl out ↦ absurd (both_ways _ out held)
   | inr below ↦ (b, omega arith, not-false _ below)
 ]
-
--- a run that begins below another one ends below the byte in front of it
-ends_before : (bytes : FinSet nat_cmp) (b lo hi : ℕ) → begins_run bytes b ≡ true → EndsRun bytes lo hi → lo < b → hi + 1 < b
-ends_before bytes b lo hi begins run below = elim (cases_lt (hi + 1) b) [
-  | inl before ↦ before
-  | inr past ↦ absurd (both_ways _ (begins_gap bytes b (b - 1) begins (omega arith)) (run.held (b - 1) (omega arith) (omega arith)))
-]
-
--- a run that begins at a byte may follow those that begin below it
-pub can_follow_runs : (bytes : FinSet nat_cmp) (pairs : List (ℕ × ℕ)) (b hi : ℕ) → HasRunsBelow bytes pairs b → begins_run bytes b ≡ true →
-    length pairs < 8 → EndsRun bytes b hi → CanFollow pairs b hi
-can_follow_runs bytes pairs b hi found begins room run = record {
-  room = room;
-  ordered = run.ordered;
-  apart = All-weaker (λ pair. EndsRun bytes pair.0 pair.1 × (pair.0 < b)) (λ pair. pair.1 + 1 < b) (λ pair h. ends_before bytes b pair.0 pair.1 begins h.0 h.1) pairs found.each;
-}
-
--- no run begins below the least byte
-pub no_runs_below : (bytes : FinSet nat_cmp) → HasRunsBelow bytes [] 0
-no_runs_below bytes = record {
-  few = omega arith;
-  count = refl;
-  each = λ k d within. absurd (omega arith);
-  covers = λ x below. absurd (omega arith);
-}
 
 -- what begins below a byte begins below the next
 one_further : (bytes : FinSet nat_cmp) (pairs : List (ℕ × ℕ)) (b : ℕ) → All (λ pair. EndsRun bytes pair.0 pair.1 × (pair.0 < b)) pairs →

@@ -1,5 +1,5 @@
 -- The runs of a set of bytes.
-use Rattle.std.specs.Prelude.{◌≡◌, ℕ, zero, suc, ◌+◌, ◌<◌, ◌≤◌, Bool, true, false, ◌&&◌, not, count_by}
+use Rattle.std.specs.Prelude.{ℕ, zero, suc, Bool, ◌&&◌, not, count_by}
 use Rattle.std.specs.Ordering.{nat_cmp}
 use Rattle.std.specs.FinSet.{FinSet, contains}
 use Rattle.pp_bytes.specs.Bytes.{all_bytes}
@@ -12,10 +12,3 @@ begins_run bytes (suc b) = contains bytes (suc b) && not (contains bytes b)
 -- how many runs of neighbouring bytes the set has
 abbrev pub runs_of : FinSet nat_cmp → ℕ
 runs_of bytes = count_by (begins_run bytes) all_bytes
-
--- the bytes from lo to hi, both included, are in the set, and the byte above them, if there is one, is not
-pub record EndsRun (bytes : FinSet nat_cmp) (lo hi : ℕ) : Type 0 where
-  pub ordered : lo ≤ hi
-  pub byte : hi < 256
-  pub held : (b : ℕ) → lo ≤ b → b ≤ hi → contains bytes b ≡ true
-  pub ends : hi < 255 → contains bytes (hi + 1) ≡ false

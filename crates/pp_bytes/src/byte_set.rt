@@ -1,9 +1,9 @@
 // Sets of bytes.
 ghost use Rattle.std.specs.Prelude.{◌≡◌, ℕ, ◌+◌, ◌<◌, ◌≤◌, ◌↔◌, true, IfSome, IfNone, IsSome, IsNone};
 ghost use Rattle.std.specs.FinSet as set;
-ghost use Rattle.pp_bytes.specs.Found.{HasRunsBelow};
+ghost use Rattle.pp_bytes.specs.Found.{EndsRun, HasRunsBelow};
 ghost use Rattle.pp_bytes.specs.Ranges.{in_ranges};
-ghost use Rattle.pp_bytes.specs.Runs.{begins_run, runs_of, EndsRun};
+ghost use Rattle.pp_bytes.specs.Runs.{begins_run, runs_of};
 
 use crate::ranges::Ranges;
 use std::marker::Model;

@@ -1,11 +1,11 @@
 -- What a builder knows of its calls, after one more call.
-use Rattle.std.proofs.Common.{◌≡◌, ℕ, ◌+◌, ◌<◌, suc, zero, List, [], ◌∷◌, ◌++◌, Bool, length, slice_get, Some, refl, ap, subst, arith}
+use Rattle.std.proofs.Common.{◌≡◌, ◌<◌, suc, zero, List, [], ◌∷◌, ◌++◌, Bool, length, ap, subst, arith}
 use Rattle.std.proofs.lemmas.List.{length_push}
 use Rattle.std.proofs.lemmas.List.Sums.{fold_push}
 use Rattle.pp_graph.specs.declared.call.BuilderCall.{BuilderCall}
 use Rattle.pp_graph.specs.declared.builder.LastNode.{LastNode}
 use Rattle.pp_graph.specs.declared.builder.LastNode.TheVariants as last
-use Rattle.pp_graph.specs.Calls.{HasForm, HaveForm, IsRecord, last_after, last_node, otherwise_after, has_otherwise}
+use Rattle.pp_graph.specs.Calls.{HasForm, HaveForm, IsRecord, last_after, otherwise_after}
 
 -- the form of one more call
 pub HaveForm-push : (calls : List BuilderCall) (c : BuilderCall) → HaveForm calls → HasForm c → HaveForm (calls ++ c ∷ [])

@@ -1,5 +1,5 @@
 -- Where a rule fails: at a call inside the list, and at its end.
-use Rattle.std.proofs.Common.{◌≡◌, ℕ, ◌+◌, ◌<◌, ◌≤◌, suc, zero, List, [], ◌∷◌, ◌++◌, Bool, true, false, ◌==◌, length, slice_get, take, drop, get_or, Some, refl, sym, ◌∙◌, subst, arith, add-one}
+use Rattle.std.proofs.Common.{◌≡◌, ℕ, ◌+◌, ◌<◌, suc, List, [], ◌∷◌, ◌++◌, Bool, true, false, ◌==◌, length, slice_get, take, drop, get_or, Some, refl, sym, ◌∙◌, subst, arith, add-one}
 use Rattle.std.specs.Prelude.{None as none}
 use Rattle.std.proofs.lemmas.Option.{slice_get_read, slice_get_past}
 use Rattle.std.proofs.lemmas.List.{take_at}

@@ -1,5 +1,5 @@
 -- What the rules say at each call, and what that makes of the names, the keys and the weights.
-use Rattle.std.proofs.Common.{◌≡◌, ℕ, ◌+◌, ◌<◌, ◌≤◌, suc, List, [], ◌∷◌, ◌++◌, Bool, true, false, not, ◌||◌, cond, nat_le, nat_lt, length, slice_get, Option, fold, filter_map, map, count_by, sum_by, Some, refl, ap, sym, ◌∙◌, subst, arith, append_assoc}
+use Rattle.std.proofs.Common.{◌≡◌, ℕ, ◌+◌, ◌<◌, ◌≤◌, List, [], ◌∷◌, ◌++◌, Bool, true, false, not, ◌||◌, cond, nat_le, nat_lt, length, Option, fold, filter_map, map, count_by, sum_by, refl, ap, sym, ◌∙◌, subst, arith, append_assoc}
 use Rattle.std.specs.Prelude.{bytes_eq}
 use Rattle.std.specs.List.{list_any}
 use Rattle.std.proofs.lemmas.Bool.{false≢true}
@@ -15,7 +15,7 @@ use Rattle.pp_graph.specs.declared.call.BuilderCall.TheVariants as call
 use Rattle.pp_graph.specs.declared.fault.GraphRule.TheVariants.{DuplicateName, UnknownName, NoOtherwise, KeyClash, TooMany}
 use Rattle.pp_graph.specs.Calls.{HasForm, HaveForm, is_node, own_calls, host_name, node_name, host_names, node_names}
 use Rattle.pp_graph.specs.Built.{key_edge, otherwise_in, or_nowhere, place_of}
-use Rattle.pp_graph.specs.Rules.{KeepsRules, has_host, has_node, has_key, has_key_after, key_count, key_count_after, is_host, is_otherwise, weight_of_call, is_duplicate, names_unknown, lacks_otherwise, is_clash, passes_limit}
+use Rattle.pp_graph.specs.Rules.{KeepsRules, has_host, has_node, has_key_after, key_count, key_count_after, is_host, is_otherwise, weight_of_call, is_duplicate, names_unknown, lacks_otherwise, is_clash, passes_limit}
 use Rattle.pp_graph.proofs.RuleLemmas.{kept-at, slice_get-split}
 use Rattle.pp_graph.proofs.TableLemmas.{Each, has_name, IsTable, IsTable-nil, IsTable-push, place_of-below}
 

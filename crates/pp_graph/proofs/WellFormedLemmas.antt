@@ -1,6 +1,5 @@
 -- Calls that keep the rules and have their form give a well-formed graph.
-use Rattle.std.proofs.Common.{◌≡◌, ℕ, ◌+◌, ◌<◌, ◌≤◌, List, [], ◌∷◌, ◌++◌, Bool, true, false, not, length, slice_get, filter_map, map, sum_by, Some, refl, ap, sym, ◌∙◌, subst, arith}
-use Rattle.std.specs.List.{list_any}
+use Rattle.std.proofs.Common.{◌≡◌, ℕ, ◌+◌, ◌<◌, ◌≤◌, List, [], ◌∷◌, ◌++◌, true, length, filter_map, map, sum_by, refl, ap, sym, ◌∙◌, arith}
 use Rattle.std.proofs.lemmas.Bool.{false≢true}
 use Rattle.std.proofs.lemmas.List.{length-map}
 use Rattle.std.proofs.lemmas.List.Sums.{sum_by-cons}
@@ -20,7 +19,7 @@ use Rattle.pp_graph.specs.Built.{built, host_decl, key_edge, kind_of, nodes_in, 
 use Rattle.pp_graph.specs.Rules.{KeepsRules, has_entry, weight_of_call}
 use Rattle.pp_graph.proofs.RuleLemmas.{kept-at_end}
 use Rattle.pp_graph.proofs.TableLemmas.{Each, each-at, IsTable, IsTable-nil}
-use Rattle.pp_graph.proofs.SoundLemmas.{IsSound, AreSound, AreSound-from_rules, along, true_from_not, nodes-step, hosts-step, light-step, key_bytes, keys-table_of_node, node-below, host-below, IsEdge, keys-edges, own-otherwise-below}
+use Rattle.pp_graph.proofs.SoundLemmas.{IsSound, AreSound, AreSound-from_rules, along, true_from_not, nodes-step, hosts-step, light-step, keys-table_of_node, node-below, host-below, IsEdge, keys-edges, own-otherwise-below}
 
 -- the names of the declarations and of the nodes
 host_decls-names : (calls : List BuilderCall) → map (λ (h : HostDecl). h.name) (filter_map host_decl calls) ≡ host_names calls

@@ -1,5 +1,5 @@
 -- The graph that a list of calls gives.
-use Rattle.std.specs.Prelude.{ℕ, List, [], ◌∷◌, Option, Some, Bool, false, bytes_eq, filter_map}
+use Rattle.std.specs.Prelude.{ℕ, List, [], ◌∷◌, Option, Some, false, bytes_eq, filter_map}
 use Rattle.std.specs.Prelude.{None as none}
 use Rattle.std.specs.List.{position_or_len}
 use Rattle.pp_graph.specs.declared.graph.HostDecl.{HostDecl}

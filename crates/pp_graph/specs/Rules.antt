@@ -1,7 +1,6 @@
 -- The rules that the calls of a builder must keep, and the first call at which one fails.
-use Rattle.std.specs.Prelude.{◌≡◌, ℕ, zero, suc, ◌+◌, ◌<◌, List, Option, Some, None, Bool, true, false, ◌&&◌, ◌||◌, not, length, take, drop, slice_get, bytes_eq, nat_le, nat_lt, ◌==◌, IsTrue, count_by, sum_by, fold}
+use Rattle.std.specs.Prelude.{ℕ, suc, ◌+◌, ◌<◌, List, Option, Some, None, Bool, true, false, ◌&&◌, ◌||◌, not, length, take, drop, slice_get, bytes_eq, nat_le, nat_lt, ◌==◌, IsTrue, count_by, sum_by, fold}
 use Rattle.std.specs.List.{list_any}
-use Rattle.pp_graph.specs.declared.call.NamedCode.{NamedCode}
 use Rattle.pp_graph.specs.declared.call.NamedCode.TheVariants as code
 use Rattle.pp_graph.specs.declared.call.NamedKind.{NamedKind}
 use Rattle.pp_graph.specs.declared.call.NamedKind.TheVariants as kind

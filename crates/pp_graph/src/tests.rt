@@ -217,7 +217,7 @@ fn tells_the_first_rule_that_fails(rt: HostRuntime) -> Result<(), Fail> {
 #[test]
 fn refuses_a_host_too_many(rt: HostRuntime) -> Result<(), Fail> {
     let mut builder = GraphBuilder::new(rt.alloc());
-    for i in 0..65 {
+    for i in 0..65_u32 {
         let name = format!(in rt.alloc(); "h{i}")?;
         assert!(rt; is_name(name.as_str().as_bytes()));
         builder.host(name.as_str(), true)?;

@@ -105,10 +105,11 @@ fn keys_of(
                 target,
             } => {
                 let bytes = Listed::of(Vec::from_slice(alloc, bytes.items())?);
+                let target = node_place(calls, target);
                 keys.push(Key {
                     bytes,
                     number: *number,
-                    target: node_place(calls, target),
+                    target,
                 })?;
             }
             _ => {}

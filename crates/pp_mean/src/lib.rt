@@ -11,3 +11,6 @@ pub use item::{Item, Props};
 pub use laws::{at_most_one_run, more_moves, run_or_loop};
 pub use plain::is_plain;
 pub use whole::{End, MeanFault, WholeRun, run_whole};
+
+#[cfg(test)]
+mod tests;

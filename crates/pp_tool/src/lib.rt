@@ -14,3 +14,6 @@ mod words;
 pub use command::tool;
 pub use status::Status;
 pub use words::WordList;
+
+#[cfg(test)]
+mod tests;

@@ -12,7 +12,7 @@ returns-in-Err-Loop-clause-only c calls rest graph =
     let same : take (length c.args.bytes.now - c.in-Ok.read.1) (drop c.in-Ok.read.1 c.args.bytes.now) ≡ rest = take_rest c.args.bytes.now c.in-Ok.read.1 ∙ read.1 in (
       (found.0, subst (λ (l : List ℕ). IsCapture l found.0) same found.1),
       (λ (parts : List (List ℕ)) (capture : IsCapture rest parts). runs_in_loop calls parts _ _ c.in-Err-Loop.field-0-0 c.in-Err-Loop.field-0-1 read.0
-      (c.deref.ensures.value ∙ c.in-Ok-read_capture.ensures.only parts (subst (λ (l : List ℕ). IsCapture l parts) (sym same) capture)) (subst (IsLoop _ _) c.in-Err-Loop.field-0-is c.in-Err-Loop.ensures.loops)),
+          (c.deref.ensures.value ∙ c.in-Ok-read_capture.ensures.only parts (subst (λ (l : List ℕ). IsCapture l parts) (sym same) capture)) (subst (IsLoop _ _) c.in-Err-Loop.field-0-is c.in-Err-Loop.ensures.loops)),
     )
 
 pub returns-in-Ok-report-clause-report : goal.returns-in-Ok-report-clause-report
@@ -28,5 +28,5 @@ returns-in-Ok-report-clause-only c calls rest graph =
     let same : take (length c.args.bytes.now - c.in-Ok.read.1) (drop c.in-Ok.read.1 c.args.bytes.now) ≡ rest = take_rest c.args.bytes.now c.in-Ok.read.1 ∙ read.1 in (
       (found.0, subst (λ (l : List ℕ). IsCapture l found.0) same found.1),
       (λ (parts : List (List ℕ)) (capture : IsCapture rest parts). no_loop calls parts _ _ read.0
-      (c.deref.ensures.value ∙ c.in-Ok-read_capture.ensures.only parts (subst (λ (l : List ℕ). IsCapture l parts) (sym same) capture)) c.in-Ok-run_whole.ensures.no_loop),
+          (c.deref.ensures.value ∙ c.in-Ok-read_capture.ensures.only parts (subst (λ (l : List ℕ). IsCapture l parts) (sym same) capture)) c.in-Ok-run_whole.ensures.no_loop),
     )

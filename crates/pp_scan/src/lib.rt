@@ -1,0 +1,10 @@
+//! How far a run of bytes goes that all lie in some ranges.
+#![tactic(auto)]
+
+mod lanes;
+mod run;
+
+pub use run::run_of;
+
+#[cfg(test)]
+mod tests;
