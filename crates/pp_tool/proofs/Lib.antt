@@ -1,5 +1,7 @@
 pub mod CaptureLemmas
 pub mod JudgeLemmas
 pub mod StatementLemmas
+pub mod StatementParts
+pub mod StatementTexts
 pub mod TextLemmas
 pub mod WordLemmas

@@ -1,5 +1,5 @@
 -- Bytes that a statement does not have.
-use Rattle.std.proofs.Common.{◌≡◌, ◌==◌, ◌&&◌, ℕ, zero, suc, ◌+◌, ◌<◌, ◌≤◌, ◌^◌, Bool, true, false, not, List, [], ◌∷◌, ◌++◌, codes, decimal, length, refl, ap, sym, ◌∙◌, subst, arith}
+use Rattle.std.proofs.Common.{◌≡◌, ◌==◌, ◌&&◌, ℕ, zero, suc, ◌<◌, ◌^◌, Bool, true, false, not, List, [], ◌∷◌, ◌++◌, codes, decimal, refl, ap, sym, ◌∙◌, arith}
 use Rattle.std.proofs.lemmas.Bool.{and_parts, both_ways}
 use Rattle.std.proofs.lemmas.Fmt.{decimal_is_IsNumeral}
 use Rattle.std.proofs.lemmas.Str.Parse.{digit_from_value}
@@ -19,10 +19,12 @@ abbrev pub Lacks : ℕ → List ℕ → Type 0
 Lacks x [] = Unit {0}
 Lacks x (b ∷ bytes) = (b ≡ x → ⊥) × Lacks x bytes
 
+-- of two lists joined
 pub Lacks-append : (x : ℕ) (front back : List ℕ) → Lacks x front → Lacks x back → Lacks x (front ++ back)
 Lacks-append x [] back p q = q
 Lacks-append x (b ∷ front) back p q = (p.0, Lacks-append x front back p.1 q)
 
+-- so the list does not contain it
 pub Lacks-contains : (x : ℕ) (bytes : List ℕ) → Lacks x bytes → Contains bytes x → ⊥
 Lacks-contains x [] p (k, within, at) = omega arith
 Lacks-contains x (b ∷ bytes) p (zero, within, at) = p.0 at
@@ -42,6 +44,7 @@ Lacks-digits x below (b ∷ bytes) all =
     let digit = digit_from_value b all.0 in
     (λ e. omega arith, Lacks-digits x below bytes all.1)
 
+-- a number that is printed lacks each byte below the digits
 pub Lacks-decimal : (x n : ℕ) → x < 48 → n < 2 ^ 64 → Lacks x (decimal n)
 Lacks-decimal x n below small = Lacks-digits x below (decimal n) (decimal_is_IsNumeral n small).0.1
 
@@ -61,6 +64,7 @@ Lacks-reason x fails bytes reason = Lacks-tested is_plain_byte x fails bytes (an
 Lacks-lf : (bytes : List ℕ) → list_all (λ b. not (b == 10)) bytes ≡ true → Lacks 10 bytes
 Lacks-lf bytes all = Lacks-tested (λ b. not (b == 10)) 10 refl bytes all
 
+-- no name, no kind and no key has an LF
 name-lf : (bytes : List ℕ) → IsName bytes → Lacks 10 bytes
 name-lf bytes name = Lacks-name 10 refl refl bytes name
 
@@ -94,5 +98,6 @@ statement-lf (call.Key bytes number target) form narrow =
 statement-lf (call.Otherwise true target) form narrow = Lacks-append 10 (codes "skip -> ") target (Lacks-lf (codes "skip -> ") refl) (name-lf target form)
 statement-lf (call.Otherwise false target) form narrow = Lacks-append 10 (codes "else -> ") target (Lacks-lf (codes "else -> ") refl) (name-lf target form)
 
+-- so no statement contains one
 pub statement_no_lf : (c : BuilderCall) → HasForm c → IsNarrow c → Contains (statement c) 10 → ⊥
 statement_no_lf c form narrow has = Lacks-contains 10 (statement c) (statement-lf c form narrow) has
