@@ -1,5 +1,6 @@
 pub mod CaptureLemmas
 pub mod JudgeLemmas
+mod Rows
 pub mod StatementLemmas
 pub mod StatementParts
 pub mod StatementTexts
