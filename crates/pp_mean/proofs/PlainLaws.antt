@@ -1,7 +1,7 @@
 -- A plain match node looks at one byte.
 use Rattle.std.proofs.Common.{subst, ◌≡◌, ℕ, zero, suc, ◌<◌, List, [], ◌∷◌, Option, Some, None, Bool, true, false, cond, refl, sym, ◌∙◌, ap, arith, length, get_or, drop, eqb, ◌||◌, ◌&&◌}
 use Rattle.std.proofs.Math.Nat.{zero-max}
-use Rattle.std.specs.Prelude.{map, slice_get, nat_lt, ◌==◌}
+use Rattle.std.specs.Prelude.{slice_get, nat_lt, ◌==◌}
 use Rattle.std.proofs.lemmas.Bool.{eq-eqb, lt-leb}
 use Rattle.std.proofs.lemmas.Bool.Decides.{nat_tests}
 use Rattle.pp_graph.specs.declared.node.Key.{Key}

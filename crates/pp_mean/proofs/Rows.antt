@@ -1,5 +1,5 @@
 -- Worked runs, which the definitions compute.
-use Rattle.std.proofs.Common.{ℕ, List, [], ◌∷◌, None, Some, true, false, Bool, refl, replicate}
+use Rattle.std.proofs.Common.{ℕ, List, [], ◌∷◌, None, Some, true, false, refl, replicate}
 use Rattle.pp_graph.specs.declared.node.Code.TheVariants as code
 use Rattle.pp_graph.specs.declared.node.Key.{Key}
 use Rattle.pp_graph.specs.declared.node.Kind.{Kind}

@@ -1,8 +1,7 @@
 -- The meaning of a graph on a whole string.
-use Rattle.std.specs.Prelude.{ℕ, List, []}
+use Rattle.std.specs.Prelude.{ℕ, List}
 use Rattle.pp_graph.specs.Plan.{Plan}
-use Rattle.pp_mean.specs.Chain.{Move}
-use Rattle.pp_mean.specs.Run.{Config, Oracle, Stage, Result, RunEnds, move, start}
+use Rattle.pp_mean.specs.Run.{Config, Oracle, Result, RunEnds}
 use Rattle.pp_mean.specs.Nodes.{graph_turn}
 
 -- the entry at place 0, with these values of the properties

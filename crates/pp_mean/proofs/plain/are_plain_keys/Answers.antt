@@ -1,4 +1,4 @@
-use Rattle.std.proofs.Common.{sym, ◌∙◌, true, arith, refl}
+use Rattle.std.proofs.Common.{arith, refl}
 use Rattle.pp_mean.specs.Plain.{IsPlainKey}
 use Rattle.pp_mean.proofs.EachLemmas.{holds_more, holds_each}
 use Rattle.pp_mean.proofs.plain.are_plain_keys.Goals as goal

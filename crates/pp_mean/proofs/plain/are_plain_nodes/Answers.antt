@@ -1,4 +1,4 @@
-use Rattle.std.proofs.Common.{sym, ◌∙◌, true, arith, refl}
+use Rattle.std.proofs.Common.{arith, refl}
 use Rattle.pp_graph.specs.declared.node.Node.{Node}
 use Rattle.pp_mean.specs.Plain.{IsPlainKind}
 use Rattle.pp_mean.proofs.EachLemmas.{holds_more, holds_each}

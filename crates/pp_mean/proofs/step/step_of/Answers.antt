@@ -1,5 +1,4 @@
 use Rattle.std.proofs.Common.{subst, sym, ◌∙◌, ap, ◌≡◌, Some, None, ℕ, List, ◌∷◌}
-use Rattle.std.proofs.Common.{◌<◌}
 use Rattle.pp_graph.specs.Plan.{AreKeys, FitsIn}
 use Rattle.pp_mean.specs.Plain.{ArePlainKeys}
 use Rattle.pp_mean.specs.Steps.{plain_target}

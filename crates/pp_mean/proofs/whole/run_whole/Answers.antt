@@ -1,4 +1,4 @@
-use Rattle.std.proofs.Common.{◌+◌, subst, set, List, sym, refl, ◌∙◌}
+use Rattle.std.proofs.Common.{◌+◌, subst, set, List, sym, refl}
 use Rattle.pp_mean.specs.declared.item.Item.{Item}
 use Rattle.pp_mean.specs.declared.whole.End.TheVariants.{Waits, Failed}
 use Rattle.pp_mean.proofs.WholeLaws.{Comes, turning_from, fits_here, takes_byte, takes_none, asks, waits_there, breaks_there, either_run_or_loop}
