@@ -1,5 +1,5 @@
 -- What the parts of an input say of the whole.
-use Rattle.std.proofs.Common.{◌≡◌, ℕ, List, [], Option, Some, refl, sym, ◌∙◌, ap, subst}
+use Rattle.std.proofs.Common.{◌≡◌, ℕ, List, Option, sym, ◌∙◌, ap, subst}
 use Rattle.pp_graph.specs.declared.call.BuilderCall.{BuilderCall}
 use Rattle.pp_graph.specs.Plan.{Plan}
 use Rattle.pp_graph.specs.Built.{built}
@@ -8,7 +8,7 @@ use Rattle.pp_mean.specs.Whole.{Shows, IsRun, ComesBack}
 use Rattle.pp_mean.specs.declared.whole.WholeRun.{WholeRun}
 use Rattle.pp_tool.specs.Capture.{joined}
 use Rattle.pp_tool.specs.Report.{report_of}
-use Rattle.pp_tool.specs.Input.{BeginsWithGraph, IsCapture, HasReport, HasLoop, HasNoGraph, HasNoCapture, RunsInLoop}
+use Rattle.pp_tool.specs.Input.{BeginsWithGraph, IsCapture, HasReport, HasLoop, RunsInLoop}
 
 -- the run of the graph on the string is that of the input, and so is its report
 pub has_report : (bytes : List ℕ) (calls : List BuilderCall) (rest : List ℕ) (parts : List (List ℕ)) (g : Plan) (string lines : List ℕ) (w : WholeRun) →

@@ -1,6 +1,5 @@
 -- The graph text: one statement a line, each in one spelling.
-use Rattle.std.specs.Prelude.{◌≡◌, ℕ, ◌<◌, ◌^◌, List, [], ◌∷◌, ◌++◌, Option, None, Bool, false, codes, decimal, flat_map, IsTrue, if◌then◌else◌}
-use Rattle.pp_graph.specs.declared.call.NamedCode.{NamedCode}
+use Rattle.std.specs.Prelude.{◌≡◌, ℕ, ◌<◌, ◌^◌, List, [], ◌∷◌, ◌++◌, None, Bool, false, codes, decimal, flat_map, IsTrue, if◌then◌else◌}
 use Rattle.pp_graph.specs.declared.call.NamedCode.TheVariants as code
 use Rattle.pp_graph.specs.declared.call.NamedKind.{NamedKind}
 use Rattle.pp_graph.specs.declared.call.NamedKind.TheVariants as kind

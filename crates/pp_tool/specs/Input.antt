@@ -1,7 +1,6 @@
 -- What the input of `trace` is, as a whole.
-use Rattle.std.specs.Prelude.{◌≡◌, ℕ, ◌<◌, ◌≤◌, List, [], ◌++◌, Option, Some, length, take}
+use Rattle.std.specs.Prelude.{◌≡◌, ℕ, ◌≤◌, List, [], ◌++◌, Option, Some, length, take}
 use Rattle.pp_graph.specs.declared.call.BuilderCall.{BuilderCall}
-use Rattle.pp_graph.specs.Plan.{Plan}
 use Rattle.pp_graph.specs.Built.{built}
 use Rattle.pp_graph.specs.Rules.{KeepsRules}
 use Rattle.pp_mean.specs.Run.{Result, by_list}

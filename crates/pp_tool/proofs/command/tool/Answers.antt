@@ -1,4 +1,4 @@
-use Rattle.std.proofs.Common.{◌≡◌, IsTrue, true, sym, ◌∙◌}
+use Rattle.std.proofs.Common.{◌≡◌, true, sym, ◌∙◌}
 use Rattle.pp_tool.proofs.command.tool.Goals as goal
 use Rattle.pp_tool.proofs.command.tool.Goals.{then-are_trace, else-are_trace}
 

@@ -1,4 +1,4 @@
-use Rattle.std.proofs.Common.{◌≡◌, List, ℕ, ◌↔◌, IsTrue, subst, sym, ◌∙◌, ap, get_or, map, arith, length}
+use Rattle.std.proofs.Common.{◌≡◌, List, ℕ, ◌↔◌, IsTrue, subst, ◌∙◌, ap, map}
 use Rattle.std.specs.Prelude.{string_bytes, bytes_eq}
 use Rattle.pp_tool.specs.Words.{trace_words}
 use Rattle.pp_tool.proofs.WordLemmas.{one_word}
