@@ -1,5 +1,5 @@
 -- What holds of every chain of moves.
-use Rattle.std.proofs.Common.{◌≡◌, ℕ, zero, suc, ◌+◌, List, [], ◌∷◌, ◌++◌, Option, Some, refl, sym, ◌∙◌, ap, zero-add}
+use Rattle.std.proofs.Common.{◌≡◌, ℕ, zero, suc, ◌+◌, List, [], ◌∷◌, ◌++◌, Option, Some, refl, ◌∙◌, ap, zero-add}
 use Rattle.std.proofs.Math.Nat.{suc-add}
 use Rattle.pp_mean.specs.Chain.{Move, On, Over, then, run_for, Ends, stages, then_list, after, then_maybe}
 
@@ -35,44 +35,6 @@ pub more_moves : {S R : Type 0} (move : S → Move S R) (k n : ℕ) (s : S) (a :
     run_for move n s ≡ Some a → run_for move (k + n) s ≡ Some a
 more_moves move zero n s a p = rw zero-add p
 more_moves move (suc k) n s a p = rw suc-add (one_more move (k + n) s a (more_moves move k n s a p))
-
--- a move first, and then the chain
-pub ends_on : {S R : Type 0} (move : S → Move S R) (s d : S) (a : R) → move s ≡ On d → Ends move d a → Ends move s a
-ends_on move s d a e h = (suc h.0, ap (then (run_for move h.0)) e ∙ h.1)
-
-pub ends_over : {S R : Type 0} (move : S → Move S R) (s : S) (a : R) → move s ≡ Over a → Ends move s a
-ends_over move s a e = (1, ap (then (run_for move 0)) e)
-
--- a chain that ends is a move and then a chain that ends
-pub ends_after : {S R : Type 0} (move : S → Move S R) (s d : S) (a : R) → move s ≡ On d → Ends move s a → Ends move d a
-ends_after move s d a e h = go h.0 h.1
-  where
-    go : (n : ℕ) → run_for move n s ≡ Some a → Ends move d a
-    go zero p = cc
-    go (suc n) p = (n, ap (then (run_for move n)) (sym e) ∙ p)
-
--- what a move leads to has this result
-abbrev pub Gives : {S R : Type 0} → (S → Move S R) → Move S R → R → Type 0
-Gives move (On s) r = Ends move s r
-Gives move (Over q) r = q ≡ r
-
-gives_then : {S R : Type 0} (move : S → Move S R) (n : ℕ) (m : Move S R) (r : R) → then (run_for move n) m ≡ Some r → Gives move m r
-gives_then move n (On s) r p = (n, p)
-gives_then move n (Over q) r p = cc
-
-pub gives : {S R : Type 0} (move : S → Move S R) (s : S) (r : R) → Ends move s r → Gives move (move s) r
-gives move s r h = go h.0 h.1
-  where
-    go : (n : ℕ) → run_for move n s ≡ Some r → Gives move (move s) r
-    go zero p = cc
-    go (suc n) p = gives_then move n (move s) r p
-
-ends_by_then : {S R : Type 0} (move : S → Move S R) (m : Move S R) (r : R) → Gives move m r → (n : ℕ) × (then (run_for move n) m ≡ Some r)
-ends_by_then move (On s) r h = h
-ends_by_then move (Over q) r h = (0, ap Some h)
-
-pub ends_by : {S R : Type 0} (move : S → Move S R) (s : S) (r : R) → Gives move (move s) r → Ends move s r
-ends_by move s r h = let e = ends_by_then move (move s) r h in (suc e.0, e.1)
 
 after_on_then : {S R : Type 0} (f g : S → Option S) (d e : S) → ((x : S) → f x ≡ Some d → g x ≡ Some e) →
     (m : Move S R) → then_maybe f m ≡ Some d → then_maybe g m ≡ Some e

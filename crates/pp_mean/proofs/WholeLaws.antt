@@ -1,8 +1,8 @@
 -- The loop of `run_whole`: the run so far, and the nodes that it has stood at.
-use Rattle.std.proofs.Common.{◌⊎◌, subst, ◌≡◌, ℕ, zero, suc, ◌+◌, ◌-◌, ◌*◌, ◌≤◌, ◌<◌, List, [], ◌∷◌, ◌++◌, Option, Some, None, Bool, true, false, cond, refl, sym, ◌∙◌, ap, arith, length, get_or, set, drop, zero-le, eqb, replicate, map, length-set, append-nil, add-zero, inl, inr}
+use Rattle.std.proofs.Common.{◌⊎◌, subst, ◌≡◌, ℕ, zero, suc, ◌+◌, ◌-◌, ◌*◌, ◌≤◌, ◌<◌, List, [], ◌∷◌, ◌++◌, Option, Some, None, Bool, true, false, cond, refl, sym, ◌∙◌, ap, arith, length, get_or, set, drop, zero-le, eqb, map, length-set, append-nil, add-zero, inl, inr}
 use Rattle.std.specs.Prelude.{slice_get}
 use Rattle.std.specs.List.{Contains}
-use Rattle.std.proofs.lemmas.List.{get_or-set_same, get_or-set_other, length-replicate, map-append, drop-drop}
+use Rattle.std.proofs.lemmas.List.{get_or-set_same, get_or-set_other, map-append, drop-drop}
 use Rattle.std.proofs.lemmas.List.Elements.{Contains-append_left, Contains-append_right, Contains-append_cases}
 use Rattle.std.proofs.lemmas.Bool.{eq-eqb, eqb-true, eqb-false}
 use Rattle.std.proofs.lemmas.Option.{slice_get_cases, slice_get-get_or}
@@ -67,25 +67,11 @@ Contains_head x xs y c = at c.0 c.1 c.2
     at zero h e = inl e
     at (suc k) h e = inr (k, omega arith, e)
 
-zeros : (n k : ℕ) → get_or {A = ℕ} (replicate n 0) k 0 ≡ 0
-zeros zero k = refl
-zeros (suc n) zero = refl
-zeros (suc n) (suc k) = zeros n k
-
 Contains-none : {X : Type 0} (x : X) → Contains [] x → ⊥
 Contains-none x c = at c.0 c.1
   where
     at : (k : ℕ) → k < 0 → ⊥
     at k h = absurd (omega arith)
-
--- at first the run stood nowhere
-pub marks_first : (n : ℕ) → Marks (replicate n 0) [] 0
-marks_first n = record {
-  marked = λ k e. (let z : get_or {A = ℕ} (replicate n 0) k 0 ≡ 0 = zeros n k in absurd (omega arith));
-  met_marked = λ k h c. absurd (Contains-none (k, 0) c);
-  low = λ k. (let z : get_or {A = ℕ} (replicate n 0) k 0 ≡ 0 = zeros n k in omega arith);
-  behind = λ k place c. absurd (Contains-none (k, place) c);
-}
 
 -- the run stood at a node
 marks_stood : (seen : List ℕ) (met : List (ℕ × ℕ)) (node at : ℕ) → Marks seen met at → node < length seen →
@@ -140,30 +126,6 @@ pub record Comes (g : Plan) (bytes : List ℕ) (items : List Item) (node at : �
   pub long : length seen ≡ length g.nodes
   pub node_in : node < length g.nodes
   pub at_in : at ≤ length bytes
-
-pub comes_first : (g : Plan) (bytes : List ℕ) → IsWellFormed g → Comes g bytes [] g.entry 0 (replicate (length g.nodes) 0)
-comes_first g bytes well_formed = record {
-  moves_made = 0;
-  there = refl;
-  once = tt;
-  marks = marks_first (length g.nodes);
-  long = length-replicate (length g.nodes) 0;
-  node_in = well_formed.entry;
-  at_in = zero-le;
-}
-
--- it has come to a marked node
-pub comes_back : (g : Plan) (bytes : List ℕ) (items : List Item) (node at : ℕ) (seen : List ℕ) → Comes g bytes items node at seen →
-    get_or seen node 0 ≡ at + 1 → ComesBack g bytes node (slice_get bytes at)
-comes_back g bytes items node at seen c e = record {
-  moves_made = c.moves_made;
-  stage = stage_at bytes items node at;
-  there = c.there;
-  node_is = refl;
-  byte_is = refl;
-  once = c.once;
-  again = c.marks.marked node e;
-}
 
 -- the chain so far with one stage more
 stands_on : (g : Plan) (bytes : List ℕ) (n : ℕ) (s : Stage) → after (moves g) n (begin g bytes) ≡ Some s →

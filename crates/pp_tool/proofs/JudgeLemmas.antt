@@ -8,7 +8,7 @@ use Rattle.pp_mean.specs.Whole.{Shows, IsRun, ComesBack}
 use Rattle.pp_mean.specs.declared.whole.WholeRun.{WholeRun}
 use Rattle.pp_tool.specs.Capture.{joined}
 use Rattle.pp_tool.specs.Report.{report_of}
-use Rattle.pp_tool.specs.Input.{BeginsWithGraph, IsCapture, HasReport, HasLoop, RunsInLoop}
+use Rattle.pp_tool.specs.Input.{BeginsWithGraph, IsCapture, HasReport, RunsInLoop}
 
 -- the run of the graph on the string is that of the input, and so is its report
 pub has_report : (bytes : List ℕ) (calls : List BuilderCall) (rest : List ℕ) (parts : List (List ℕ)) (g : Plan) (string lines : List ℕ) (w : WholeRun) →
@@ -40,8 +40,3 @@ pub no_loop : (calls : List BuilderCall) (parts : List (List ℕ)) (g : Plan) (s
 no_loop calls parts g string e f never loop =
     never loop.0 loop.1 (subst (λ (h : Plan). ComesBack h string loop.0 loop.1) (sym e)
     (subst (λ (s : List ℕ). ComesBack (built calls) s loop.0 loop.1) (sym f) loop.2))
-
-pub has_loop : (bytes : List ℕ) (calls : List BuilderCall) (rest : List ℕ) (parts : List (List ℕ)) (g : Plan) (string : List ℕ) (node : ℕ) (byte : Option ℕ) →
-    BeginsWithGraph bytes calls rest → g ≡ built calls → IsCapture rest parts → string ≡ joined parts → ComesBack g string node byte → HasLoop bytes
-has_loop bytes calls rest parts g string node byte graph e capture f back =
-    record { calls = calls; rest = rest; parts = parts; graph = graph; capture = capture; loop = runs_in_loop calls parts g string node byte e f back }

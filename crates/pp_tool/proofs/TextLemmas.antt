@@ -97,15 +97,6 @@ pub record IsReading (bytes : List ℕ) (done : List BuilderCall) (at : ℕ) : T
   pub text : bytes ≡ flat_map line done ++ drop at bytes
   pub goes_on : (calls : List BuilderCall) (rest : List ℕ) → AreStatements [] calls → bytes ≡ body_of calls ++ rest → GoesOn done (drop at bytes) calls rest
 
-pub reading_start : (bytes : List ℕ) → IsReading bytes [] 0
-reading_start bytes = record {
-  within = omega arith;
-  few = omega arith;
-  statements = tt;
-  text = refl;
-  goes_on = λ calls rest are e. record { more = calls; same = refl; statements = are; text = e };
-}
-
 -- one more statement, which the calls hold
 pub record HasNext (done : List BuilderCall) (l after : List ℕ) (calls : List BuilderCall) (rest : List ℕ) : Type 0 where
   pub next : BuilderCall

@@ -18,7 +18,8 @@ use std::sync::ledger::Ledger;
 /// The words are judged first, and nothing is read where they are no command. Then the input is read to its end,
 /// at most 262,144 bytes: a graph text and a capture of connection 0. Then the graph, the capture and the run are
 /// judged, in this order, and last the report is written. Nothing is written to the output before the report. An
-/// error line that can't be written changes no status.
+/// error line that can't be written changes no status. `steps` counts the states of a program that are read: none,
+/// since a graph is run whole.
 pub fn tool<S: Source, K: Sink, E: Sink, L: Ledger>(
     alloc: Global,
     words: &WordList,
