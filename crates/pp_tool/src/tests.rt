@@ -137,75 +137,81 @@ fn an_error_node_ends_the_run(rt: HostRuntime) -> Result<(), Fail> {
     Ok(())
 }
 
+const FIRST_READ: Outside = Outside {
+    read_fails: &[0],
+    ..SOUND
+};
+
+const LATER_READ: Outside = Outside {
+    read_fails: &[3],
+    most: 10,
+    ..SOUND
+};
+
+const FIRST_WRITE: Outside = Outside {
+    write_fails: &[0],
+    ..SOUND
+};
+
+const LATER_WRITE: Outside = Outside {
+    write_fails: &[2],
+    most: 4,
+    ..SOUND
+};
+
+// Words, the world outside, the status, what was written, and the line that tells it. For wrong words nothing is
+// read: the first read would fail.
+const FAULTS: [(&[&str], Outside, Status, &str, &str); 6] = [
+    (
+        &["trace"],
+        FIRST_READ,
+        Status::ReadFault,
+        "",
+        "read fault\n",
+    ),
+    (
+        &["trace"],
+        LATER_READ,
+        Status::ReadFault,
+        "",
+        "read fault\n",
+    ),
+    (
+        &["trace"],
+        FIRST_WRITE,
+        Status::WriteFault,
+        "",
+        "write fault\n",
+    ),
+    (
+        &["trace"],
+        LATER_WRITE,
+        Status::WriteFault,
+        "0 call h",
+        "write fault\n",
+    ),
+    (
+        &["trace", "--quick"],
+        FIRST_READ,
+        Status::Words,
+        "",
+        "words: no such command\n",
+    ),
+    (
+        &[],
+        FIRST_READ,
+        Status::Words,
+        "",
+        "words: no such command\n",
+    ),
+];
+
 #[test]
 fn a_fault_is_told_and_nothing_is_written(rt: HostRuntime) -> Result<(), Fail> {
     let alloc = rt.alloc();
     let mut bytes = joined(alloc, GRAPH, &BEGIN)?;
     bytes.extend_from_slice(&[2, 0, 0, 3, b'b', b'a', b'b', 5])?;
-    let first_read = Outside {
-        read_fails: &[0],
-        ..SOUND
-    };
-    let later_read = Outside {
-        read_fails: &[3],
-        most: 10,
-        ..SOUND
-    };
-    let first_write = Outside {
-        write_fails: &[0],
-        ..SOUND
-    };
-    let later_write = Outside {
-        write_fails: &[2],
-        most: 4,
-        ..SOUND
-    };
-    let rows: [(&[&str], Outside, Status, &str, &str); 6] = [
-        (
-            &["trace"],
-            first_read,
-            Status::ReadFault,
-            "",
-            "read fault\n",
-        ),
-        (
-            &["trace"],
-            later_read,
-            Status::ReadFault,
-            "",
-            "read fault\n",
-        ),
-        (
-            &["trace"],
-            first_write,
-            Status::WriteFault,
-            "",
-            "write fault\n",
-        ),
-        (
-            &["trace"],
-            later_write,
-            Status::WriteFault,
-            "0 call h",
-            "write fault\n",
-        ),
-        // Nothing is read: the first read would fail.
-        (
-            &["trace", "--quick"],
-            first_read,
-            Status::Words,
-            "",
-            "words: no such command\n",
-        ),
-        (
-            &[],
-            first_read,
-            Status::Words,
-            "",
-            "words: no such command\n",
-        ),
-    ];
-    for (words, outside, status, written, line) in rows {
+    for (words, outside, status, written, line) in FAULTS {
         assert!(rt; 1 <= outside.most);
         let got = outcome_of(alloc, words, bytes.as_slice(), outside)?;
         assert_eq!(rt; got.status, status);
