@@ -1,18 +1,29 @@
 -- Where a rule fails: at a call inside the list, and at its end.
-use Rattle.std.proofs.Common.{◌≡◌, ℕ, ◌+◌, ◌<◌, suc, List, [], ◌∷◌, ◌++◌, Bool, true, false, ◌==◌, length, slice_get, take, drop, get_or, Some, refl, sym, ◌∙◌, subst, arith, add-one}
+use Rattle.std.proofs.Common.{◌≡◌, ℕ, ◌+◌, ◌<◌, suc, List, [], ◌∷◌, ◌++◌, Bool, true, false, ◌==◌, length, slice_get, take, drop, get_or, Some, refl, ap, sym, inl, inr, ◌∙◌, subst, arith, add-one}
 use Rattle.std.specs.Prelude.{None as none}
 use Rattle.std.proofs.lemmas.Option.{slice_get_read, slice_get_past}
 use Rattle.std.proofs.lemmas.List.{take_at}
+use Rattle.std.proofs.lemmas.Bool.{false≢true, cases_lt}
 use Rattle.std.proofs.lemmas.Bool.Decides.{nat_tests}
 use Rattle.pp_graph.specs.declared.call.BuilderCall.{BuilderCall}
 use Rattle.pp_graph.specs.declared.fault.GraphRule.{GraphRule}
-use Rattle.pp_graph.specs.Rules.{fails, fails_at, fails_at_end, Keeps}
+use Rattle.pp_graph.specs.Rules.{fails, fails_at, fails_at_end, FailsAt, Keeps}
 
 -- at the call of a number
 pub fails_at-within : (rule : GraphRule) (calls : List BuilderCall) (i : ℕ) (c : BuilderCall) → i < length calls → c ≡ get_or calls i c → fails_at rule calls i ≡ fails rule calls (take i calls) c (drop (i + 1) calls)
 fails_at-within rule calls i c h e =
     let at : slice_get calls i ≡ Some c = slice_get_read calls (length calls) i c refl h e in
     rw (at, add-one) refl
+
+-- a rule that fails at no call before this one, nor at it
+pub kept-more : (rule : GraphRule) (calls : List BuilderCall) (i : ℕ) → fails_at rule calls i ≡ false → ((j : ℕ) → j < i → ¬ (FailsAt rule calls j)) → (j : ℕ) → j < i + 1 → ¬ (FailsAt rule calls j)
+kept-more rule calls i e before j h f =
+    elim (cases_lt j i) [
+      | inl below ↦ before j below f
+      | inr rest ↦
+          let same : j ≡ i = omega arith in
+          false≢true (sym e ∙ (ap (fails_at rule calls) (sym same) ∙ f))
+    ]
 
 -- the call behind these
 pub slice_get-split : (before : List BuilderCall) (c : BuilderCall) (after : List BuilderCall) → slice_get (before ++ c ∷ after) (length before) ≡ Some c

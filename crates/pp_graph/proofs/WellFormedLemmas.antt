@@ -1,153 +1,148 @@
 -- Calls that keep the rules and have their form give a well-formed graph.
-use Rattle.std.proofs.Common.{◌≡◌, ℕ, ◌+◌, ◌<◌, ◌≤◌, List, [], ◌∷◌, ◌++◌, true, length, filter_map, map, sum_by, refl, ap, sym, ◌∙◌, arith}
-use Rattle.std.proofs.lemmas.Bool.{false≢true}
+use Rattle.std.proofs.Common.{◌≡◌, ℕ, ◌<◌, ◌≤◌, List, [], ◌∷◌, ◌++◌, true, false, not, length, map, filter_map, Option, Some, IfSome, refl, ap, sym, ◌∙◌, subst, arith}
+use Rattle.std.specs.Prelude.{None as none}
+use Rattle.std.specs.List.{list_any}
 use Rattle.std.proofs.lemmas.List.{length-map}
-use Rattle.std.proofs.lemmas.List.Sums.{sum_by-cons}
+use Rattle.pp_graph.specs.declared.graph.PropDecl.{PropDecl}
 use Rattle.pp_graph.specs.declared.graph.HostDecl.{HostDecl}
-use Rattle.pp_graph.specs.declared.node.Key.{Key}
+use Rattle.pp_graph.specs.declared.graph.SpanDecl.{SpanDecl}
 use Rattle.pp_graph.specs.declared.node.Node.{Node}
-use Rattle.pp_graph.specs.declared.call.NamedCode.TheVariants as code
 use Rattle.pp_graph.specs.declared.call.NamedKind.{NamedKind}
 use Rattle.pp_graph.specs.declared.call.NamedKind.TheVariants as kind
 use Rattle.pp_graph.specs.declared.call.BuilderCall.{BuilderCall}
 use Rattle.pp_graph.specs.declared.call.BuilderCall.TheVariants as call
+use Rattle.pp_graph.specs.declared.call.Sort.TheVariants as sort
 use Rattle.pp_graph.specs.declared.fault.GraphRule.TheVariants.{NoEntry}
 use Rattle.pp_graph.specs.Names.{IsName}
-use Rattle.pp_graph.specs.Plan.{IsWellFormed, FitsIn, AreKeys, weight_of}
-use Rattle.pp_graph.specs.Calls.{HaveForm, own_calls, host_names, node_names}
-use Rattle.pp_graph.specs.Built.{built, host_decl, key_edge, kind_of, nodes_in, entry_in, place_of}
-use Rattle.pp_graph.specs.Rules.{KeepsRules, has_entry, weight_of_call}
+use Rattle.pp_graph.specs.Plan.{IsWellFormed, AreDistinct, FitsIn, FinishFits, Leads, host_value}
+use Rattle.pp_graph.specs.Calls.{HaveForm, own_calls, names_of, is_declared, named_by_code, declared_by, is_declared_by}
+use Rattle.pp_graph.specs.Built.{Tables, tables_of, built, place_of, prop_decl, host_decl, span_decl, kind_of, nodes_in, entry_node, entry_in, finish_places, first_of, other_in}
+use Rattle.pp_graph.specs.Rules.{KeepsRules, has_entry, lower_kind, is_otherwise}
 use Rattle.pp_graph.proofs.RuleLemmas.{kept-at_end}
-use Rattle.pp_graph.proofs.TableLemmas.{Each, each-at, IsTable, IsTable-nil}
-use Rattle.pp_graph.proofs.SoundLemmas.{IsSound, AreSound, AreSound-from_rules, along, true_from_not, nodes-step, hosts-step, light-step, keys-table_of_node, node-below, host-below, IsEdge, keys-edges, own-otherwise-below}
+use Rattle.pp_graph.proofs.TableLemmas.{Each, each-at}
+use Rattle.pp_graph.proofs.EachLemmas.{passes_some, each-filter_map, any-filter_map, distinct-from_pairs, or_false_left, or_false_right, true_from_not}
+use Rattle.pp_graph.proofs.SoundLemmas.{IsSound, AreSound, AreSound-from_rules, each-sound}
+use Rattle.pp_graph.proofs.SortLemmas.{names-apart, few-props, few-hosts, few-spans, few-nodes, props-names, hosts-names, spans-names, nodes-names, there-at, declared-within}
+use Rattle.pp_graph.proofs.ValueLemmas.{prop-within, leads-none, code-fits, value_host-place}
+use Rattle.pp_graph.proofs.EdgeSoundLemmas.{node-own}
+use Rattle.pp_graph.proofs.EdgeFitLemmas.{edges-of_match, answers-of_invoke, other-leads, first-is}
+use Rattle.pp_graph.proofs.WeightLemmas.{nodes-weight, calls-light}
 
--- the names of the declarations and of the nodes
-host_decls-names : (calls : List BuilderCall) → map (λ (h : HostDecl). h.name) (filter_map host_decl calls) ≡ host_names calls
-host_decls-names [] = refl
-host_decls-names (call.Host name value ∷ calls) = ap (λ names. name ∷ names) (host_decls-names calls)
-host_decls-names (call.Entry node ∷ calls) = host_decls-names calls
-host_decls-names (call.Node name what ∷ calls) = host_decls-names calls
-host_decls-names (call.Key bytes number target ∷ calls) = host_decls-names calls
-host_decls-names (call.Otherwise skip target ∷ calls) = host_decls-names calls
+-- what each sound call gives, of one sort of declaration
+decls-fit : {Y : Type 0} (f : BuilderCall → Option Y) (Q : Y → Type 0) (all : List BuilderCall) → ((before : List BuilderCall) (c : BuilderCall) (after : List BuilderCall) → IsSound all before c after → IfSome (f c) Q) → AreSound all [] all → Each Q (filter_map f all)
+decls-fit f Q all h s = each-filter_map f (λ c. IfSome (f c) Q) Q all (λ c p. p) (each-sound (λ c. IfSome (f c) Q) all [] all h s)
 
-nodes_in-names : (hosts nodes : List (List ℕ)) (calls : List BuilderCall) → map (λ (n : Node). n.name) (nodes_in hosts nodes calls) ≡ node_names calls
-nodes_in-names hosts nodes [] = refl
-nodes_in-names hosts nodes (call.Host name value ∷ calls) = nodes_in-names hosts nodes calls
-nodes_in-names hosts nodes (call.Entry node ∷ calls) = nodes_in-names hosts nodes calls
-nodes_in-names hosts nodes (call.Node name what ∷ calls) = ap (λ names. name ∷ names) (nodes_in-names hosts nodes calls)
-nodes_in-names hosts nodes (call.Key bytes number target ∷ calls) = nodes_in-names hosts nodes calls
-nodes_in-names hosts nodes (call.Otherwise skip target ∷ calls) = nodes_in-names hosts nodes calls
+prop-named : (all before : List BuilderCall) (c : BuilderCall) (after : List BuilderCall) → IsSound all before c after → IfSome (prop_decl c) (λ (p : PropDecl). IsName p.name)
+prop-named all before (call.Prop name width) after s = s.form
+prop-named all before c after s = tt
 
--- the names of the hosts have their form
-hosts-named : (all before after : List BuilderCall) → AreSound all before after → Each (λ (h : HostDecl). IsName h.name) (filter_map host_decl after)
-hosts-named all before [] s = tt
-hosts-named all before (call.Host name value ∷ after) s = (s.0.form, hosts-named all (before ++ call.Host name value ∷ []) after s.1)
-hosts-named all before (call.Entry node ∷ after) s = hosts-named all (before ++ call.Entry node ∷ []) after s.1
-hosts-named all before (call.Node name what ∷ after) s = hosts-named all (before ++ call.Node name what ∷ []) after s.1
-hosts-named all before (call.Key bytes number target ∷ after) s = hosts-named all (before ++ call.Key bytes number target ∷ []) after s.1
-hosts-named all before (call.Otherwise skip target ∷ after) s = hosts-named all (before ++ call.Otherwise skip target ∷ []) after s.1
+host-named : (all before : List BuilderCall) (c : BuilderCall) (after : List BuilderCall) → IsSound all before c after → IfSome (host_decl c) (λ (p : HostDecl). IsName p.name)
+host-named all before (call.Host name value) after s = s.form
+host-named all before c after s = tt
 
--- the first entry leads to a node
-entry-below : (all before after : List BuilderCall) → AreSound all before after → has_entry after ≡ true → entry_in (node_names all) after < length (node_names all)
-entry-below all before [] s h = absurd (false≢true h)
-entry-below all before (call.Host name value ∷ after) s h = entry-below all (before ++ call.Host name value ∷ []) after s.1 h
-entry-below all before (call.Entry node ∷ after) s h = node-below all node s.0.known
-entry-below all before (call.Node name what ∷ after) s h = entry-below all (before ++ call.Node name what ∷ []) after s.1 h
-entry-below all before (call.Key bytes number target ∷ after) s h = entry-below all (before ++ call.Key bytes number target ∷ []) after s.1 h
-entry-below all before (call.Otherwise skip target ∷ after) s h = entry-below all (before ++ call.Otherwise skip target ∷ []) after s.1 h
+span-named : (all before : List BuilderCall) (c : BuilderCall) (after : List BuilderCall) → IsSound all before c after → IfSome (span_decl c) (λ (p : SpanDecl). IsName p.name)
+span-named all before (call.Span name) after s = s.form
+span-named all before c after s = tt
 
--- the keys of a node, with the calls behind it
-keys-fit : (all before : List BuilderCall) (name : List ℕ) (what : NamedKind) (after : List BuilderCall) → AreSound all (before ++ call.Node name what ∷ []) after → AreKeys (length (node_names all)) (filter_map (key_edge (node_names all)) (own_calls after))
-keys-fit all before name what after s =
-    let edges = keys-edges all (before ++ call.Node name what ∷ []) after s in
-    let table = keys-table_of_node (node_names all) all before name what after s in
-    let keys = filter_map (key_edge (node_names all)) (own_calls after) in
-    record {
-      targets = λ i k e. (each-at (IsEdge (length (node_names all))) keys edges i k e).0;
-      short = λ i k e. (each-at (IsEdge (length (node_names all))) keys edges i k e).1;
-      distinct = table.distinct;
-      few = omega (arith, table.few, length-map keys (λ (k : Key). k.bytes));
-    }
+-- the entry leads to a node
+entry-fits : (all : List BuilderCall) → AreSound all [] all → (before : List BuilderCall) (c : BuilderCall) (after : List BuilderCall) → IsSound all before c after → IfSome (entry_node (tables_of all) c) (λ n. Leads (built all) none n)
+entry-fits all s before (call.Entry node) after p =
+    leads-none all node s (true_from_not (is_declared all (sort.Node, node)) (or_false_left _ _ p.known)) p.valued
+entry-fits all s before c after p = tt
 
--- a node fits among the hosts and the nodes of all the calls
-kind-fits : (all before : List BuilderCall) (name : List ℕ) (what : NamedKind) (after : List BuilderCall) → IsSound all before (call.Node name what) after → AreSound all (before ++ call.Node name what ∷ []) after → FitsIn (length (host_names all)) (length (node_names all)) (kind_of (host_names all) (node_names all) what (own_calls after))
-kind-fits all before name kind.Match after p s =
-    (keys-fit all before name kind.Match after s, own-otherwise-below all (before ++ call.Node name kind.Match ∷ []) after s p.closed)
-kind-fits all before name (kind.Invoke (code.Call host)) after p s =
-    (host-below all host p.known, own-otherwise-below all (before ++ call.Node name (kind.Invoke (code.Call host)) ∷ []) after s p.closed)
-kind-fits all before name (kind.Fail number reason) after p s = p.form.1
+entry-there : (t : Tables) (c : BuilderCall) → is_declared_by sort.Entry [] (declared_by c) ≡ passes_some (λ n. true) (entry_node t c)
+entry-there t (call.Entry node) = refl
+entry-there t c = refl
+
+entry-leads : (all : List BuilderCall) → AreSound all [] all → has_entry all ≡ true → Leads (built all) none (entry_in (tables_of all) all)
+entry-leads all s h =
+    let t = tables_of all in
+    let each = decls-fit (entry_node t) (λ n. Leads (built all) none n) all (entry-fits all s) s in
+    let some : list_any (λ n. true) (filter_map (entry_node t) all) ≡ true = sym (any-filter_map (entry_node t) (λ n. true) (λ c. is_declared_by sort.Entry [] (declared_by c)) all (entry-there t)) ∙ h in
+    first-is (λ n. Leads (built all) none n) (filter_map (entry_node t) all) 0 each some
+
+-- the finish rule fits
+span-within : (all : List BuilderCall) (span : List ℕ) → is_declared all (sort.Span, span) ≡ true → place_of (names_of sort.Span all) span < length (filter_map span_decl all)
+span-within all span d = declared-within (λ (p : SpanDecl). p.name) (filter_map span_decl all) sort.Span span all (spans-names all) d
+
+finish-fits : (all : List BuilderCall) → AreSound all [] all → (before : List BuilderCall) (c : BuilderCall) (after : List BuilderCall) → IsSound all before c after → IfSome (finish_places (tables_of all) c) (λ r. FinishFits (built all) (Some r))
+finish-fits all s before (call.Finish prop host) after p =
+    let has_prop : is_declared all (sort.Prop, prop) ≡ true = true_from_not (is_declared all (sort.Prop, prop)) (or_false_left _ _ p.known) in
+    let has_host : is_declared all (sort.Host, host) ≡ true = true_from_not (is_declared all (sort.Host, host)) (or_false_left _ _ (or_false_right (not (is_declared all (sort.Prop, prop))) _ p.known)) in
+    let hosts = filter_map host_decl all in
+    let at = there-at hosts (place_of (names_of sort.Host all) host) (declared-within (λ (h : HostDecl). h.name) hosts sort.Host host all (hosts-names all) has_host) in
+    (prop-within all prop has_prop, at.0, at.1, ap host_value (sym at.1) ∙ sym (value_host-place all host s) ∙ p.valued)
+finish-fits all s before c after p = tt
+
+first-finish : (all : List BuilderCall) (rules : List (ℕ × ℕ)) → Each (λ r. FinishFits (built all) (Some r)) rules → FinishFits (built all) (first_of rules)
+first-finish all [] s = tt
+first-finish all (r ∷ rules) s = s.0
+
+-- a node fits, with the calls behind it
+own-leads : (all before : List BuilderCall) (name : List ℕ) (what : NamedKind) (after : List BuilderCall) → AreSound all [] all → AreSound all (before ++ call.Node name what ∷ []) after → not (list_any is_otherwise (own_calls after)) ≡ false → Leads (built all) none (other_in (tables_of all) (own_calls after)).target
+own-leads all before name what after s q h =
+    other-leads all (own_calls after) (lower_kind what) s (node-own all before name what after q) h
+
+kind-fits : (all before : List BuilderCall) (name : List ℕ) (what : NamedKind) (after : List BuilderCall) → AreSound all [] all → IsSound all before (call.Node name what) after → AreSound all (before ++ call.Node name what ∷ []) after → FitsIn (built all) (kind_of (tables_of all) what (own_calls after))
+kind-fits all before name (kind.Match fold) after s p q =
+    (edges-of_match all (own_calls after) fold s (node-own all before name (kind.Match fold) after q), own-leads all before name (kind.Match fold) after s q p.closed)
+kind-fits all before name (kind.Invoke what) after s p q = (
+  code-fits all what (true_from_not (is_declared all (named_by_code what)) (or_false_left _ _ p.known)) p.wide,
+  answers-of_invoke all (own_calls after) (lower_kind (kind.Invoke what)) s (node-own all before name (kind.Invoke what) after q),
+  own-leads all before name (kind.Invoke what) after s q p.closed,
+)
+kind-fits all before name (kind.Consume prop) after s p q =
+    (prop-within all prop (true_from_not (is_declared all (sort.Prop, prop)) (or_false_left _ _ p.known)), own-leads all before name (kind.Consume prop) after s q p.closed)
+kind-fits all before name (kind.SpanOpen span) after s p q =
+    (span-within all span (true_from_not (is_declared all (sort.Span, span)) (or_false_left _ _ p.known)), own-leads all before name (kind.SpanOpen span) after s q p.closed)
+kind-fits all before name (kind.SpanClose span) after s p q =
+    (span-within all span (true_from_not (is_declared all (sort.Span, span)) (or_false_left _ _ p.known)), own-leads all before name (kind.SpanClose span) after s q p.closed)
+kind-fits all before name (kind.Pause number reason) after s p q =
+    (p.form.1, own-leads all before name (kind.Pause number reason) after s q p.closed)
+kind-fits all before name (kind.Fail number reason) after s p q = p.form.1
 
 -- the name of a node has its form, and the node fits
-abbrev IsSoundNode : ℕ → ℕ → Node → Type 0
-IsSoundNode hosts nodes n = IsName n.name × FitsIn hosts nodes n.kind
+abbrev IsSoundNode : List BuilderCall → Node → Type 0
+IsSoundNode all n = IsName n.name × FitsIn (built all) n.kind
 
-nodes-fit : (all before after : List BuilderCall) → AreSound all before after → Each (IsSoundNode (length (host_names all)) (length (node_names all))) (nodes_in (host_names all) (node_names all) after)
-nodes-fit all before [] s = tt
-nodes-fit all before (call.Host name value ∷ after) s = nodes-fit all (before ++ call.Host name value ∷ []) after s.1
-nodes-fit all before (call.Entry node ∷ after) s = nodes-fit all (before ++ call.Entry node ∷ []) after s.1
-nodes-fit all before (call.Node name what ∷ after) s =
-    ((s.0.form.0, kind-fits all before name what after s.0 s.1), nodes-fit all (before ++ call.Node name what ∷ []) after s.1)
-nodes-fit all before (call.Key bytes number target ∷ after) s = nodes-fit all (before ++ call.Key bytes number target ∷ []) after s.1
-nodes-fit all before (call.Otherwise skip target ∷ after) s = nodes-fit all (before ++ call.Otherwise skip target ∷ []) after s.1
+nodes-fit : (all before after : List BuilderCall) → AreSound all [] all → AreSound all before after → Each (IsSoundNode all) (nodes_in (tables_of all) after)
+nodes-fit all before [] s q = tt
+nodes-fit all before (call.Prop name width ∷ after) s q = nodes-fit all (before ++ call.Prop name width ∷ []) after s q.1
+nodes-fit all before (call.Host name value ∷ after) s q = nodes-fit all (before ++ call.Host name value ∷ []) after s q.1
+nodes-fit all before (call.Span name ∷ after) s q = nodes-fit all (before ++ call.Span name ∷ []) after s q.1
+nodes-fit all before (call.Entry node ∷ after) s q = nodes-fit all (before ++ call.Entry node ∷ []) after s q.1
+nodes-fit all before (call.Finish prop host ∷ after) s q = nodes-fit all (before ++ call.Finish prop host ∷ []) after s q.1
+nodes-fit all before (call.Node name what ∷ after) s q =
+    ((q.0.form.0, kind-fits all before name what after s q.0 q.1), nodes-fit all (before ++ call.Node name what ∷ []) after s q.1)
+nodes-fit all before (call.Edge when target ∷ after) s q = nodes-fit all (before ++ call.Edge when target ∷ []) after s q.1
 
--- the key bytes of a node are those of the calls that belong to it
-abbrev key_weight : Key → ℕ
-key_weight k = length k.bytes
-
-keys-weight : (names : List (List ℕ)) (calls : List BuilderCall) → sum_by key_weight (filter_map (key_edge names) calls) ≡ sum_by weight_of_call calls
-keys-weight names [] = refl
-keys-weight names (call.Host name value ∷ calls) = omega (arith, sum_by-cons weight_of_call (call.Host name value) calls, keys-weight names calls)
-keys-weight names (call.Entry node ∷ calls) = omega (arith, sum_by-cons weight_of_call (call.Entry node) calls, keys-weight names calls)
-keys-weight names (call.Node name what ∷ calls) = omega (arith, sum_by-cons weight_of_call (call.Node name what) calls, keys-weight names calls)
-keys-weight names (call.Key bytes number target ∷ calls) =
-    let edge : Key = record { bytes = bytes; number = number; target = place_of names target } in
-    omega (arith, sum_by-cons weight_of_call (call.Key bytes number target) calls, sum_by-cons key_weight edge (filter_map (key_edge names) calls), keys-weight names calls)
-keys-weight names (call.Otherwise skip target ∷ calls) = omega (arith, sum_by-cons weight_of_call (call.Otherwise skip target) calls, keys-weight names calls)
-
-kind-weight : (hosts nodes : List (List ℕ)) (what : NamedKind) (own : List BuilderCall) → weight_of (kind_of hosts nodes what own) ≤ sum_by weight_of_call own
-kind-weight hosts nodes kind.Match own = omega (arith, keys-weight nodes own)
-kind-weight hosts nodes (kind.Invoke what) own = omega arith
-kind-weight hosts nodes (kind.Fail number reason) own = omega arith
-
-abbrev node_weight : Node → ℕ
-node_weight n = weight_of n.kind
-
--- the nodes together have at most the key bytes of the calls, beside those before the first node
-nodes-weight : (hosts nodes : List (List ℕ)) (calls : List BuilderCall) → sum_by node_weight (nodes_in hosts nodes calls) + sum_by weight_of_call (own_calls calls) ≤ sum_by weight_of_call calls
-nodes-weight hosts nodes [] = omega arith
-nodes-weight hosts nodes (call.Host name value ∷ calls) =
-    omega (arith, sum_by-cons weight_of_call (call.Host name value) calls, sum_by-cons weight_of_call (call.Host name value) (own_calls calls), nodes-weight hosts nodes calls)
-nodes-weight hosts nodes (call.Entry node ∷ calls) =
-    omega (arith, sum_by-cons weight_of_call (call.Entry node) calls, sum_by-cons weight_of_call (call.Entry node) (own_calls calls), nodes-weight hosts nodes calls)
-nodes-weight hosts nodes (call.Node name what ∷ calls) =
-    let here : Node = record { name = name; kind = kind_of hosts nodes what (own_calls calls) } in
-    omega (arith, sum_by-cons weight_of_call (call.Node name what) calls, sum_by-cons node_weight here (nodes_in hosts nodes calls), kind-weight hosts nodes what (own_calls calls), nodes-weight hosts nodes calls)
-nodes-weight hosts nodes (call.Key bytes number target ∷ calls) =
-    omega (arith, sum_by-cons weight_of_call (call.Key bytes number target) calls, sum_by-cons weight_of_call (call.Key bytes number target) (own_calls calls), nodes-weight hosts nodes calls)
-nodes-weight hosts nodes (call.Otherwise skip target ∷ calls) =
-    omega (arith, sum_by-cons weight_of_call (call.Otherwise skip target) calls, sum_by-cons weight_of_call (call.Otherwise skip target) (own_calls calls), nodes-weight hosts nodes calls)
+-- declarations are as many as their names
+few-decls : {X : Type 0} (name_of : X → List ℕ) (xs : List X) (names : List (List ℕ)) (limit : ℕ) → map name_of xs ≡ names → length names ≤ limit → length xs ≤ limit
+few-decls name_of xs names limit e h = omega (arith, length-map xs name_of, ap length e)
 
 -- the graph of calls that keep the rules is well formed
 pub IsWellFormed-built : (calls : List BuilderCall) → KeepsRules calls → HaveForm calls → IsWellFormed (built calls)
 IsWellFormed-built calls k h =
     let s : AreSound calls [] calls = AreSound-from_rules calls [] calls refl k h in
-    let hosts : IsTable 64 (host_names calls) = along (λ cs. IsTable 64 (host_names cs)) calls [] calls s (hosts-step calls) (IsTable-nil 64) in
-    let nodes : IsTable 4096 (node_names calls) = along (λ cs. IsTable 4096 (node_names cs)) calls [] calls s (nodes-step calls) (IsTable-nil 4096) in
-    let light : sum_by weight_of_call calls ≤ 20000 = along (λ cs. sum_by weight_of_call cs ≤ 20000) calls [] calls s (light-step calls) (omega arith) in
+    let t = tables_of calls in
     let plan = built calls in
-    let host_count : length plan.hosts ≡ length (host_names calls) = sym (length-map plan.hosts (λ (d : HostDecl). d.name)) ∙ ap length (host_decls-names calls) in
-    let node_count : length plan.nodes ≡ length (node_names calls) = sym (length-map plan.nodes (λ (n : Node). n.name)) ∙ ap length (nodes_in-names (host_names calls) (node_names calls) calls) in
-    let fits = nodes-fit calls [] calls s in
     let has : has_entry calls ≡ true = true_from_not (has_entry calls) (kept-at_end NoEntry calls (k NoEntry)) in
-    let Is = IsSoundNode (length (host_names calls)) (length (node_names calls)) in
+    let fits = nodes-fit calls [] calls s s in
     record {
-      host_names = rw (host_decls-names calls) hosts.distinct;
-      node_names = rw (nodes_in-names (host_names calls) (node_names calls) calls) nodes.distinct;
-      hosts_named = each-at (λ (d : HostDecl). IsName d.name) plan.hosts (hosts-named calls [] calls s);
-      nodes_named = λ i n e. (each-at Is plan.nodes fits i n e).0;
-      entry = rw node_count (entry-below calls [] calls s has);
-      kinds = λ i n e. rw (host_count, node_count) (each-at Is plan.nodes fits i n e).1;
-      few_hosts = omega (arith, host_count, hosts.few);
-      few_nodes = omega (arith, node_count, nodes.few);
-      light = omega (arith, nodes-weight (host_names calls) (node_names calls) calls, light);
+      prop_names = subst AreDistinct (sym (props-names calls)) (distinct-from_pairs (names_of sort.Prop calls) (names-apart sort.Prop calls s));
+      host_names = subst AreDistinct (sym (hosts-names calls)) (distinct-from_pairs (names_of sort.Host calls) (names-apart sort.Host calls s));
+      span_names = subst AreDistinct (sym (spans-names calls)) (distinct-from_pairs (names_of sort.Span calls) (names-apart sort.Span calls s));
+      node_names = subst AreDistinct (sym (nodes-names t calls)) (distinct-from_pairs (names_of sort.Node calls) (names-apart sort.Node calls s));
+      props_named = each-at (λ (p : PropDecl). IsName p.name) plan.props (decls-fit prop_decl (λ (p : PropDecl). IsName p.name) calls (prop-named calls) s);
+      hosts_named = each-at (λ (p : HostDecl). IsName p.name) plan.hosts (decls-fit host_decl (λ (p : HostDecl). IsName p.name) calls (host-named calls) s);
+      spans_named = each-at (λ (p : SpanDecl). IsName p.name) plan.spans (decls-fit span_decl (λ (p : SpanDecl). IsName p.name) calls (span-named calls) s);
+      nodes_named = λ i n e. (each-at (IsSoundNode calls) plan.nodes fits i n e).0;
+      entry = entry-leads calls s has;
+      finish = first-finish calls (filter_map (finish_places t) calls) (decls-fit (finish_places t) (λ r. FinishFits plan (Some r)) calls (finish-fits calls s) s);
+      kinds = λ i n e. (each-at (IsSoundNode calls) plan.nodes fits i n e).1;
+      few_props = few-decls (λ (p : PropDecl). p.name) plan.props (names_of sort.Prop calls) 64 (props-names calls) (few-props calls s);
+      few_hosts = few-decls (λ (p : HostDecl). p.name) plan.hosts (names_of sort.Host calls) 64 (hosts-names calls) (few-hosts calls s);
+      few_spans = few-decls (λ (p : SpanDecl). p.name) plan.spans (names_of sort.Span calls) 32 (spans-names calls) (few-spans calls s);
+      few_nodes = few-decls (λ (n : Node). n.name) plan.nodes (names_of sort.Node calls) 4096 (nodes-names t calls) (few-nodes calls s);
+      light = omega (arith, nodes-weight t calls, calls-light calls s);
     }

@@ -1,88 +1,212 @@
 -- The graph that a list of calls gives.
-use Rattle.std.specs.Prelude.{ℕ, List, [], ◌∷◌, Option, Some, false, bytes_eq, filter_map}
+use Rattle.std.specs.Prelude.{ℕ, ◌-◌, ◌^◌, List, [], ◌∷◌, Option, Some, false, bytes_eq, filter_map, find, unwrap_or, option_map}
 use Rattle.std.specs.Prelude.{None as none}
 use Rattle.std.specs.List.{position_or_len}
+use Rattle.pp_graph.specs.declared.graph.PropDecl.{PropDecl}
 use Rattle.pp_graph.specs.declared.graph.HostDecl.{HostDecl}
+use Rattle.pp_graph.specs.declared.graph.SpanDecl.{SpanDecl}
 use Rattle.pp_graph.specs.declared.node.Code.{Code}
 use Rattle.pp_graph.specs.declared.node.Code.TheVariants as placed_code
 use Rattle.pp_graph.specs.declared.node.Key.{Key}
+use Rattle.pp_graph.specs.declared.node.Peek.{Peek}
+use Rattle.pp_graph.specs.declared.node.Answer.{Answer}
 use Rattle.pp_graph.specs.declared.node.Kind.{Kind}
-use Rattle.pp_graph.specs.declared.node.Kind.TheVariants.{Match, Invoke, Fail}
+use Rattle.pp_graph.specs.declared.node.Kind.TheVariants as placed
 use Rattle.pp_graph.specs.declared.node.Node.{Node}
 use Rattle.pp_graph.specs.declared.node.Other.{Other}
+use Rattle.pp_graph.specs.declared.call.Constant.{Constant}
+use Rattle.pp_graph.specs.declared.call.Constant.TheVariants as constant
 use Rattle.pp_graph.specs.declared.call.NamedCode.{NamedCode}
 use Rattle.pp_graph.specs.declared.call.NamedCode.TheVariants as code
 use Rattle.pp_graph.specs.declared.call.NamedKind.{NamedKind}
 use Rattle.pp_graph.specs.declared.call.NamedKind.TheVariants as kind
+use Rattle.pp_graph.specs.declared.call.NamedEdge.TheVariants as edge
 use Rattle.pp_graph.specs.declared.call.BuilderCall.{BuilderCall}
 use Rattle.pp_graph.specs.declared.call.BuilderCall.TheVariants as call
+use Rattle.pp_graph.specs.declared.call.Sort.TheVariants as sort
+use Rattle.pp_graph.specs.Widths.{greatest}
 use Rattle.pp_graph.specs.Plan.{Plan}
-use Rattle.pp_graph.specs.Calls.{own_calls, host_names, node_names}
+use Rattle.pp_graph.specs.Calls.{own_calls, names_of}
 
 -- the place of the first of these names that is equal, or their count
 abbrev pub place_of : List (List ℕ) → List ℕ → ℕ
 place_of names name = position_or_len (bytes_eq name) names
 
+-- the names of the declarations of each sort, in order, and the properties themselves
+pub record Tables : Type 0 where
+  pub props : List PropDecl
+  pub prop_names : List (List ℕ)
+  pub hosts : List (List ℕ)
+  pub spans : List (List ℕ)
+  pub nodes : List (List ℕ)
+
+abbrev pub prop_decl : BuilderCall → Option PropDecl
+prop_decl (call.Prop name width) = Some (record { name = name; width = width })
+prop_decl (call.Host name value) = none
+prop_decl (call.Span name) = none
+prop_decl (call.Entry node) = none
+prop_decl (call.Finish prop host) = none
+prop_decl (call.Node name what) = none
+prop_decl (call.Edge when target) = none
+
 abbrev pub host_decl : BuilderCall → Option HostDecl
+host_decl (call.Prop name width) = none
 host_decl (call.Host name value) = Some (record { name = name; value = value })
+host_decl (call.Span name) = none
 host_decl (call.Entry node) = none
+host_decl (call.Finish prop host) = none
 host_decl (call.Node name what) = none
-host_decl (call.Key bytes number target) = none
-host_decl (call.Otherwise skip target) = none
+host_decl (call.Edge when target) = none
 
--- a key edge, which leads to one of these nodes
-abbrev pub key_edge : List (List ℕ) → BuilderCall → Option Key
-key_edge nodes (call.Host name value) = none
-key_edge nodes (call.Entry node) = none
-key_edge nodes (call.Node name what) = none
-key_edge nodes (call.Key bytes number target) = Some (record { bytes = bytes; number = number; target = place_of nodes target })
-key_edge nodes (call.Otherwise skip target) = none
+abbrev pub span_decl : BuilderCall → Option SpanDecl
+span_decl (call.Prop name width) = none
+span_decl (call.Host name value) = none
+span_decl (call.Span name) = Some (record { name = name })
+span_decl (call.Entry node) = none
+span_decl (call.Finish prop host) = none
+span_decl (call.Node name what) = none
+span_decl (call.Edge when target) = none
 
--- the first otherwise among the calls, if there is one
-abbrev pub otherwise_in : List (List ℕ) → List BuilderCall → Option Other
-otherwise_in nodes [] = none
-otherwise_in nodes (call.Host name value ∷ calls) = otherwise_in nodes calls
-otherwise_in nodes (call.Entry node ∷ calls) = otherwise_in nodes calls
-otherwise_in nodes (call.Node name what ∷ calls) = otherwise_in nodes calls
-otherwise_in nodes (call.Key bytes number target ∷ calls) = otherwise_in nodes calls
-otherwise_in nodes (call.Otherwise skip target ∷ calls) = Some (record { skip = skip; target = place_of nodes target })
+abbrev pub tables_of : List BuilderCall → Tables
+tables_of calls = record {
+  props = filter_map prop_decl calls;
+  prop_names = names_of sort.Prop calls;
+  hosts = names_of sort.Host calls;
+  spans = names_of sort.Span calls;
+  nodes = names_of sort.Node calls;
+}
 
--- without an otherwise there is no graph; then this says nothing
-abbrev pub or_nowhere : Option Other → Other
-or_nowhere none = record { skip = false; target = 0 }
-or_nowhere (Some other) = other
+-- the greatest value of the property of this name; of one that is not there, the greatest of all
+abbrev pub greatest_of : Tables → List ℕ → ℕ
+greatest_of t prop = unwrap_or (option_map (λ (p : PropDecl). greatest p.width) (find (λ (p : PropDecl). bytes_eq prop p.name) t.props)) (2 ^ 64 - 1)
 
-abbrev pub code_of : List (List ℕ) → NamedCode → Code
-code_of hosts (code.Call host) = placed_code.Call (place_of hosts host)
+abbrev pub constant_code : Constant → ℕ → ℕ → Code
+constant_code constant.Update prop value = placed_code.Update prop value
+constant_code constant.Equal prop value = placed_code.Equal prop value
+constant_code constant.And prop value = placed_code.And prop value
+constant_code constant.Or prop value = placed_code.Or prop value
+constant_code constant.Test prop value = placed_code.Test prop value
+
+abbrev pub code_of : Tables → NamedCode → Code
+code_of t (code.Call host) = placed_code.Call (place_of t.hosts host)
+code_of t (code.Store prop) = placed_code.Store (place_of t.prop_names prop)
+code_of t (code.Load prop) = placed_code.Load (place_of t.prop_names prop)
+code_of t (code.Constant what prop value) = constant_code what (place_of t.prop_names prop) value
+code_of t (code.MulAdd prop base most) = placed_code.MulAdd (place_of t.prop_names prop) base (unwrap_or most (greatest_of t prop))
+
+-- the edges that a call adds, which lead to a node
+abbrev pub key_edge : Tables → BuilderCall → Option Key
+key_edge t (call.Prop name width) = none
+key_edge t (call.Host name value) = none
+key_edge t (call.Span name) = none
+key_edge t (call.Entry node) = none
+key_edge t (call.Finish prop host) = none
+key_edge t (call.Node name what) = none
+key_edge t (call.Edge (edge.Key bytes number) target) = Some (record { bytes = bytes; number = number; target = place_of t.nodes target })
+key_edge t (call.Edge (edge.Peek byte) target) = none
+key_edge t (call.Edge (edge.Answer number) target) = none
+key_edge t (call.Edge (edge.Otherwise skip) target) = none
+
+abbrev pub peek_edge : Tables → BuilderCall → Option Peek
+peek_edge t (call.Prop name width) = none
+peek_edge t (call.Host name value) = none
+peek_edge t (call.Span name) = none
+peek_edge t (call.Entry node) = none
+peek_edge t (call.Finish prop host) = none
+peek_edge t (call.Node name what) = none
+peek_edge t (call.Edge (edge.Key bytes number) target) = none
+peek_edge t (call.Edge (edge.Peek byte) target) = Some (record { byte = byte; target = place_of t.nodes target })
+peek_edge t (call.Edge (edge.Answer number) target) = none
+peek_edge t (call.Edge (edge.Otherwise skip) target) = none
+
+abbrev pub answer_edge : Tables → BuilderCall → Option Answer
+answer_edge t (call.Prop name width) = none
+answer_edge t (call.Host name value) = none
+answer_edge t (call.Span name) = none
+answer_edge t (call.Entry node) = none
+answer_edge t (call.Finish prop host) = none
+answer_edge t (call.Node name what) = none
+answer_edge t (call.Edge (edge.Key bytes number) target) = none
+answer_edge t (call.Edge (edge.Peek byte) target) = none
+answer_edge t (call.Edge (edge.Answer number) target) = Some (record { number = number; target = place_of t.nodes target })
+answer_edge t (call.Edge (edge.Otherwise skip) target) = none
+
+abbrev pub other_edge : Tables → BuilderCall → Option Other
+other_edge t (call.Prop name width) = none
+other_edge t (call.Host name value) = none
+other_edge t (call.Span name) = none
+other_edge t (call.Entry node) = none
+other_edge t (call.Finish prop host) = none
+other_edge t (call.Node name what) = none
+other_edge t (call.Edge (edge.Key bytes number) target) = none
+other_edge t (call.Edge (edge.Peek byte) target) = none
+other_edge t (call.Edge (edge.Answer number) target) = none
+other_edge t (call.Edge (edge.Otherwise skip) target) = Some (record { skip = skip; target = place_of t.nodes target })
+
+-- the first of some options that is there
+abbrev pub first_of : {X : Type 0} → List X → Option X
+first_of [] = none
+first_of (x ∷ xs) = Some x
+
+-- the otherwise among the calls that belong to a node; without one there is no graph, and then this says nothing
+abbrev pub other_in : Tables → List BuilderCall → Other
+other_in t own = unwrap_or (first_of (filter_map (other_edge t) own)) (record { skip = false; target = 0 })
 
 -- a node's kind, with the calls that belong to it
-abbrev pub kind_of : List (List ℕ) → List (List ℕ) → NamedKind → List BuilderCall → Kind
-kind_of hosts nodes kind.Match own = Match (filter_map (key_edge nodes) own) (or_nowhere (otherwise_in nodes own))
-kind_of hosts nodes (kind.Invoke what) own = Invoke (code_of hosts what) (or_nowhere (otherwise_in nodes own)).target
-kind_of hosts nodes (kind.Fail number reason) own = Fail number reason
+abbrev pub kind_of : Tables → NamedKind → List BuilderCall → Kind
+kind_of t (kind.Match fold) own = placed.Match fold (filter_map (key_edge t) own) (filter_map (peek_edge t) own) (other_in t own)
+kind_of t (kind.Invoke what) own = placed.Invoke (code_of t what) (filter_map (answer_edge t) own) (other_in t own).target
+kind_of t (kind.Consume prop) own = placed.Consume (place_of t.prop_names prop) (other_in t own).target
+kind_of t (kind.SpanOpen span) own = placed.SpanOpen (place_of t.spans span) (other_in t own).target
+kind_of t (kind.SpanClose span) own = placed.SpanClose (place_of t.spans span) (other_in t own).target
+kind_of t (kind.Pause number reason) own = placed.Pause number reason (other_in t own).target
+kind_of t (kind.Fail number reason) own = placed.Fail number reason
 
 -- the nodes in order, each with the calls that belong to it
-abbrev pub nodes_in : List (List ℕ) → List (List ℕ) → List BuilderCall → List Node
-nodes_in hosts nodes [] = []
-nodes_in hosts nodes (call.Host name value ∷ calls) = nodes_in hosts nodes calls
-nodes_in hosts nodes (call.Entry node ∷ calls) = nodes_in hosts nodes calls
-nodes_in hosts nodes (call.Node name what ∷ calls) = record { name = name; kind = kind_of hosts nodes what (own_calls calls) } ∷ nodes_in hosts nodes calls
-nodes_in hosts nodes (call.Key bytes number target ∷ calls) = nodes_in hosts nodes calls
-nodes_in hosts nodes (call.Otherwise skip target ∷ calls) = nodes_in hosts nodes calls
+abbrev pub nodes_in : Tables → List BuilderCall → List Node
+nodes_in t [] = []
+nodes_in t (call.Prop name width ∷ calls) = nodes_in t calls
+nodes_in t (call.Host name value ∷ calls) = nodes_in t calls
+nodes_in t (call.Span name ∷ calls) = nodes_in t calls
+nodes_in t (call.Entry node ∷ calls) = nodes_in t calls
+nodes_in t (call.Finish prop host ∷ calls) = nodes_in t calls
+nodes_in t (call.Node name what ∷ calls) = record { name = name; kind = kind_of t what (own_calls calls) } ∷ nodes_in t calls
+nodes_in t (call.Edge when target ∷ calls) = nodes_in t calls
 
--- the place of the node that the first entry call names, or 0 without one
-abbrev pub entry_in : List (List ℕ) → List BuilderCall → ℕ
-entry_in nodes [] = 0
-entry_in nodes (call.Host name value ∷ calls) = entry_in nodes calls
-entry_in nodes (call.Entry node ∷ calls) = place_of nodes node
-entry_in nodes (call.Node name what ∷ calls) = entry_in nodes calls
-entry_in nodes (call.Key bytes number target ∷ calls) = entry_in nodes calls
-entry_in nodes (call.Otherwise skip target ∷ calls) = entry_in nodes calls
+abbrev pub entry_node : Tables → BuilderCall → Option ℕ
+entry_node t (call.Prop name width) = none
+entry_node t (call.Host name value) = none
+entry_node t (call.Span name) = none
+entry_node t (call.Entry node) = Some (place_of t.nodes node)
+entry_node t (call.Finish prop host) = none
+entry_node t (call.Node name what) = none
+entry_node t (call.Edge when target) = none
+
+abbrev pub finish_places : Tables → BuilderCall → Option (ℕ × ℕ)
+finish_places t (call.Prop name width) = none
+finish_places t (call.Host name value) = none
+finish_places t (call.Span name) = none
+finish_places t (call.Entry node) = none
+finish_places t (call.Finish prop host) = Some (place_of t.prop_names prop, place_of t.hosts host)
+finish_places t (call.Node name what) = none
+finish_places t (call.Edge when target) = none
+
+abbrev pub entry_in : Tables → List BuilderCall → ℕ
+entry_in t calls = unwrap_or (first_of (filter_map (entry_node t) calls)) 0
+
+abbrev pub finish_in : Tables → List BuilderCall → Option (ℕ × ℕ)
+finish_in t calls = first_of (filter_map (finish_places t) calls)
 
 -- the graph with these declarations in order
-abbrev pub built : List BuilderCall → Plan
-built calls = record {
+abbrev pub built_by : Tables → List BuilderCall → Plan
+built_by t calls = record {
+  props = t.props;
   hosts = filter_map host_decl calls;
-  nodes = nodes_in (host_names calls) (node_names calls) calls;
-  entry = entry_in (node_names calls) calls;
+  spans = filter_map span_decl calls;
+  nodes = nodes_in t calls;
+  entry = entry_in t calls;
+  finish = finish_in t calls;
 }
+
+abbrev pub built : List BuilderCall → Plan
+built calls = built_by (tables_of calls) calls

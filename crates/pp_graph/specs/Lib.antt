@@ -1,5 +1,15 @@
 pub mod Names
+pub mod Keys
+pub mod Widths
 pub mod Plan
+pub mod Parts
 pub mod Calls
+pub mod NameLists
 pub mod Built
 pub mod Rules
+pub mod Room
+pub mod OwnKeys
+pub mod OwnEdges
+pub mod Seen
+pub mod Gaps
+pub mod Lookups

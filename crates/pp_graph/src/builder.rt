@@ -1,15 +1,18 @@
 // The builder: calls in order, and the graph that they give.
-ghost use Rattle.std.specs.Prelude.{◌≡◌, ◌<◌, ◌++◌, ◌∷◌, [], true, false, length, IfOk, IfErr, OnOk, OnErr};
+ghost use Rattle.std.specs.Prelude.{◌≡◌, ◌<◌, ◌^◌, ◌++◌, ◌∷◌, [], true, false, length, IfOk, IfErr, OnOk, OnErr, if◌then◌else◌};
 ghost use Rattle.pp_graph.specs.declared.call.BuilderCall.TheVariants as call;
+ghost use Rattle.pp_graph.specs.declared.call.NamedEdge.TheVariants as edge;
+ghost use Rattle.pp_graph.specs.declared.call.NamedCode.TheVariants as code;
 ghost use Rattle.pp_graph.specs.Names.{IsName};
-ghost use Rattle.pp_graph.specs.Calls.{last_node as last_node_of, has_otherwise as has_otherwise_of, last_of as last_node_kind, named_kind, KindHasForm, MayFollow};
+ghost use Rattle.pp_graph.specs.Calls.{last_node as last_node_of, has_otherwise as has_otherwise_of, last_of as last_node_kind, named_kind, named_code, KindHasForm, CodeHasForm, MayFollow, HaveForm, is_otherwise_edge};
 ghost use Rattle.pp_graph.specs.Built.{built};
 ghost use Rattle.pp_graph.specs.Rules.{KeepsRules, IsFault};
 
-use crate::call::{BuilderCall, CodeText, KindText, NamedCode, NamedKind};
+use crate::call::{BuilderCall, CodeText, Constant, KindText, NamedCode, NamedEdge, NamedKind};
 use crate::fault::{GraphFault, NoMemory};
-use crate::graph::Graph;
+use crate::graph::{Graph, Width};
 use crate::name::{Name, Reason};
+use crate::values::Values;
 use pp_bytes::Listed;
 use std::alloc::Global;
 use std::marker::Model;
@@ -63,7 +66,19 @@ impl GraphBuilder {
         }
     }
 
-    /// Declares a host code. A refused call changes nothing.
+    /// Declares a property of this width; its values begin at 0. A refused call changes nothing.
+    pub fn prop(&mut self, name: &str, width: Width) -> Result<(), NoMemory>
+        requires form { IsName name.now }
+        requires room { length self.old < 4294967295 }
+        ensures added { OnOk result (self.new ≡ self.old ++ call.Prop name.now width ∷ []) }
+        ensures unchanged { OnErr result (self.new ≡ self.old) }
+    {
+        let name = Name::new(self.alloc, name.as_bytes())?;
+        self.calls.push(BuilderCall::Prop { name, width })?;
+        Ok(())
+    }
+
+    /// Declares a host code, which is asked with the carried number or without. A refused call changes nothing.
     pub fn host(&mut self, name: &str, value: bool) -> Result<(), NoMemory>
         requires form { IsName name.now }
         requires room { length self.old < 4294967295 }
@@ -72,6 +87,18 @@ impl GraphBuilder {
     {
         let name = Name::new(self.alloc, name.as_bytes())?;
         self.calls.push(BuilderCall::Host { name, value })?;
+        Ok(())
+    }
+
+    /// Declares a span. A refused call changes nothing.
+    pub fn span(&mut self, name: &str) -> Result<(), NoMemory>
+        requires form { IsName name.now }
+        requires room { length self.old < 4294967295 }
+        ensures added { OnOk result (self.new ≡ self.old ++ call.Span name.now ∷ []) }
+        ensures unchanged { OnErr result (self.new ≡ self.old) }
+    {
+        let name = Name::new(self.alloc, name.as_bytes())?;
+        self.calls.push(BuilderCall::Span { name })?;
         Ok(())
     }
 
@@ -84,6 +111,20 @@ impl GraphBuilder {
     {
         let node = Name::new(self.alloc, node.as_bytes())?;
         self.calls.push(BuilderCall::Entry { node })?;
+        Ok(())
+    }
+
+    /// Gives the finish rule: a property, and the host code that is asked where it is 1. A refused call changes nothing.
+    pub fn finish(&mut self, prop: &str, host: &str) -> Result<(), NoMemory>
+        requires prop_form { IsName prop.now }
+        requires host_form { IsName host.now }
+        requires room { length self.old < 4294967295 }
+        ensures added { OnOk result (self.new ≡ self.old ++ call.Finish prop.now host.now ∷ []) }
+        ensures unchanged { OnErr result (self.new ≡ self.old) }
+    {
+        let prop = Name::new(self.alloc, prop.as_bytes())?;
+        let host = Name::new(self.alloc, host.as_bytes())?;
+        self.calls.push(BuilderCall::Finish { prop, host })?;
         Ok(())
     }
 
@@ -108,50 +149,70 @@ impl GraphBuilder {
     /// and the node that it leads to. A refused call changes nothing.
     pub fn key(&mut self, bytes: &[u8], number: Option<u32>, target: &str) -> Result<(), NoMemory>
         requires form { IsName target.now }
-        requires follows { MayFollow self.old (call.Key bytes.now number target.now) }
+        requires follows { MayFollow self.old (call.Edge (edge.Key bytes.now number) target.now) }
         requires room { length self.old < 4294967295 }
-        ensures added { OnOk result (self.new ≡ self.old ++ call.Key bytes.now number target.now ∷ []) }
+        ensures added { OnOk result (self.new ≡ self.old ++ call.Edge (edge.Key bytes.now number) target.now ∷ []) }
         ensures unchanged { OnErr result (self.new ≡ self.old) }
     {
         let bytes = Listed::of(Vec::from_slice(self.alloc, bytes)?);
-        let target = Name::new(self.alloc, target.as_bytes())?;
-        self.calls.push(BuilderCall::Key {
-            bytes,
-            number,
-            target,
-        })?;
-        Ok(())
+        self.edge(NamedEdge::Key { bytes, number }, target)
+    }
+
+    /// Adds a peek edge to the node that was added last, a match. A refused call changes nothing.
+    pub fn peek(&mut self, byte: u8, target: &str) -> Result<(), NoMemory>
+        requires form { IsName target.now }
+        requires follows { MayFollow self.old (call.Edge (edge.Peek byte) target.now) }
+        requires room { length self.old < 4294967295 }
+        ensures added { OnOk result (self.new ≡ self.old ++ call.Edge (edge.Peek byte) target.now ∷ []) }
+        ensures unchanged { OnErr result (self.new ≡ self.old) }
+    {
+        self.edge(NamedEdge::Peek { byte }, target)
+    }
+
+    /// Adds an answer edge to the node that was added last, an invoke. A refused call changes nothing.
+    pub fn answer(&mut self, number: u32, target: &str) -> Result<(), NoMemory>
+        requires form { IsName target.now }
+        requires follows { MayFollow self.old (call.Edge (edge.Answer number) target.now) }
+        requires room { length self.old < 4294967295 }
+        ensures added { OnOk result (self.new ≡ self.old ++ call.Edge (edge.Answer number) target.now ∷ []) }
+        ensures unchanged { OnErr result (self.new ≡ self.old) }
+    {
+        self.edge(NamedEdge::Answer { number }, target)
     }
 
     /// Gives the node that was added last its otherwise, which takes no byte. A refused call changes nothing.
     pub fn otherwise(&mut self, target: &str) -> Result<(), NoMemory>
         requires form { IsName target.now }
-        requires follows { MayFollow self.old (call.Otherwise false target.now) }
+        requires follows { MayFollow self.old (call.Edge (edge.Otherwise false) target.now) }
         requires room { length self.old < 4294967295 }
-        ensures added { OnOk result (self.new ≡ self.old ++ call.Otherwise false target.now ∷ []) }
+        ensures added { OnOk result (self.new ≡ self.old ++ call.Edge (edge.Otherwise false) target.now ∷ []) }
         ensures unchanged { OnErr result (self.new ≡ self.old) }
     {
-        let target = Name::new(self.alloc, target.as_bytes())?;
-        self.calls.push(BuilderCall::Otherwise {
-            skip: false,
-            target,
-        })?;
-        self.closed = true;
-        Ok(())
+        self.edge(NamedEdge::Otherwise { skip: false }, target)
     }
 
     /// Gives the node that was added last, a match, an otherwise that takes one byte. A refused call changes nothing.
     pub fn skip(&mut self, target: &str) -> Result<(), NoMemory>
         requires form { IsName target.now }
-        requires follows { MayFollow self.old (call.Otherwise true target.now) }
+        requires follows { MayFollow self.old (call.Edge (edge.Otherwise true) target.now) }
         requires room { length self.old < 4294967295 }
-        ensures added { OnOk result (self.new ≡ self.old ++ call.Otherwise true target.now ∷ []) }
+        ensures added { OnOk result (self.new ≡ self.old ++ call.Edge (edge.Otherwise true) target.now ∷ []) }
+        ensures unchanged { OnErr result (self.new ≡ self.old) }
+    {
+        self.edge(NamedEdge::Otherwise { skip: true }, target)
+    }
+
+    // Adds an edge to the node that was added last.
+    fn edge(&mut self, edge: NamedEdge, target: &str) -> Result<(), NoMemory>
+        requires form { IsName target.now }
+        requires room { length self.old < 4294967295 }
+        ensures added { OnOk result (self.new ≡ self.old ++ call.Edge edge target.now ∷ []) }
         ensures unchanged { OnErr result (self.new ≡ self.old) }
     {
         let target = Name::new(self.alloc, target.as_bytes())?;
-        self.calls
-            .push(BuilderCall::Otherwise { skip: true, target })?;
-        self.closed = true;
+        let closed = is_closed_by(&edge, self.closed);
+        self.calls.push(BuilderCall::Edge { edge, target })?;
+        self.closed = closed;
         Ok(())
     }
 
@@ -182,13 +243,43 @@ impl GraphBuilder {
             last: _,
             closed: _,
         } = self;
-        if let Some((rule, call)) = crate::rules::first_fault(&calls) {
-            return Err(GraphFault::Broken {
-                rule,
-                call: call as u32,
-            });
-        }
-        Ok(crate::whole::build(alloc, &calls)?)
+        graph_of(alloc, &calls)
+    }
+}
+
+// The graph of these calls, where every rule holds; else the first fault.
+fn graph_of(alloc: Global, calls: &[BuilderCall]) -> Result<Graph, GraphFault>
+    requires forms { HaveForm calls.now }
+    requires small { length calls.now < 2 ^ 32 }
+    ensures ok { IfOk result (λ graph. KeepsRules calls.now × (graph ≡ built calls.now)) }
+    ensures broken { IfErr result (IsFault calls.now) }
+{
+    let values = Values::of(alloc, calls)?;
+    checked_graph(alloc, &values)
+}
+
+fn checked_graph(alloc: Global, values: &Values<'_>) -> Result<Graph, GraphFault>
+    requires forms { HaveForm values.now }
+    requires small { length values.now < 2 ^ 32 }
+    ensures ok { IfOk result (λ graph. KeepsRules values.now × (graph ≡ built values.now)) }
+    ensures broken { IfErr result (IsFault values.now) }
+{
+    if let Some((rule, call)) = crate::rules::first_fault(alloc, values)? {
+        return Err(GraphFault::Broken {
+            rule,
+            call: call as u32,
+        });
+    }
+    Ok(crate::whole::build(alloc, values.declared())?)
+}
+
+// Whether a node has an otherwise with this edge, if it had one before or had none.
+fn is_closed_by(edge: &NamedEdge, closed: bool) -> bool
+    ensures { result ≡ (if is_otherwise_edge edge.now then true else closed) }
+{
+    match edge {
+        NamedEdge::Otherwise { .. } => true,
+        _ => closed,
     }
 }
 
@@ -197,8 +288,12 @@ fn last_of(kind: KindText<'_>) -> LastNode
     ensures { result ≡ last_node_kind (named_kind kind.entry) }
 {
     match kind {
-        KindText::Match => LastNode::Match,
+        KindText::Match { .. } => LastNode::Match,
         KindText::Invoke { .. } => LastNode::Invoke,
+        KindText::Consume { .. }
+        | KindText::SpanOpen { .. }
+        | KindText::SpanClose { .. }
+        | KindText::Pause { .. } => LastNode::Other,
         KindText::Fail { .. } => LastNode::Fail,
     }
 }
@@ -209,17 +304,66 @@ fn named_kind(alloc: Global, kind: KindText<'_>) -> Result<NamedKind, NoMemory>
     ensures { IfOk result (λ named. named ≡ named_kind kind.entry) }
 {
     match kind {
-        KindText::Match => Ok(NamedKind::Match),
-        KindText::Invoke {
-            code: CodeText::Call { host },
-        } => Ok(NamedKind::Invoke {
-            code: NamedCode::Call {
-                host: Name::new(alloc, host.as_bytes())?,
-            },
+        KindText::Match { fold } => Ok(NamedKind::Match { fold }),
+        KindText::Invoke { code } => Ok(NamedKind::Invoke {
+            code: named_code(alloc, code)?,
+        }),
+        KindText::Consume { prop } => Ok(NamedKind::Consume {
+            prop: Name::new(alloc, prop.as_bytes())?,
+        }),
+        KindText::SpanOpen { span } => Ok(NamedKind::SpanOpen {
+            span: Name::new(alloc, span.as_bytes())?,
+        }),
+        KindText::SpanClose { span } => Ok(NamedKind::SpanClose {
+            span: Name::new(alloc, span.as_bytes())?,
+        }),
+        KindText::Pause { code, reason } => Ok(NamedKind::Pause {
+            code,
+            reason: Reason::new(alloc, reason.as_bytes())?,
         }),
         KindText::Fail { code, reason } => Ok(NamedKind::Fail {
             code,
             reason: Reason::new(alloc, reason.as_bytes())?,
         }),
     }
+}
+
+// The code with its names copied.
+fn named_code(alloc: Global, code: CodeText<'_>) -> Result<NamedCode, NoMemory>
+    requires { CodeHasForm (named_code code) }
+    ensures { IfOk result (λ named. named ≡ named_code code.entry) }
+{
+    match code {
+        CodeText::Call { host } => Ok(NamedCode::Call {
+            host: Name::new(alloc, host.as_bytes())?,
+        }),
+        CodeText::Store { prop } => Ok(NamedCode::Store {
+            prop: Name::new(alloc, prop.as_bytes())?,
+        }),
+        CodeText::Load { prop } => Ok(NamedCode::Load {
+            prop: Name::new(alloc, prop.as_bytes())?,
+        }),
+        CodeText::Update { prop, value } => constant(alloc, Constant::Update, prop, value),
+        CodeText::Equal { prop, value } => constant(alloc, Constant::Equal, prop, value),
+        CodeText::And { prop, value } => constant(alloc, Constant::And, prop, value),
+        CodeText::Or { prop, value } => constant(alloc, Constant::Or, prop, value),
+        CodeText::Test { prop, value } => constant(alloc, Constant::Test, prop, value),
+        CodeText::MulAdd { prop, base, max } => Ok(NamedCode::MulAdd {
+            prop: Name::new(alloc, prop.as_bytes())?,
+            base,
+            max,
+        }),
+    }
+}
+
+// What a code does with a property and a constant.
+fn constant(alloc: Global, what: Constant, prop: &str, value: u64) -> Result<NamedCode, NoMemory>
+    requires { IsName prop.now }
+    ensures { IfOk result (λ named. named ≡ code.Constant what prop.now value) }
+{
+    Ok(NamedCode::Constant {
+        what,
+        prop: Name::new(alloc, prop.as_bytes())?,
+        value,
+    })
 }

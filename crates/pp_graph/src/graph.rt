@@ -7,6 +7,22 @@ use crate::node::Node;
 use pp_bytes::Listed;
 use std::marker::Model;
 
+/// How many bits a property has.
+#[derive(Clone, Copy, Debug, PartialEq, Eq)]
+pub enum Width {
+    W8,
+    W16,
+    W32,
+    W64,
+}
+
+/// A property: its name and its width.
+#[derive(Debug, Drop)]
+pub struct PropDecl {
+    pub name: Name,
+    pub width: Width,
+}
+
 /// A host code: its name, and whether it is asked with the number that the edge carried.
 #[derive(Debug, Drop)]
 pub struct HostDecl {
@@ -14,12 +30,32 @@ pub struct HostDecl {
     pub value: bool,
 }
 
-/// A graph that keeps the rules. Contracts see it as its lists and its entry.
+/// A span: its name.
+#[derive(Debug, Drop)]
+pub struct SpanDecl {
+    pub name: Name,
+}
+
+/// The parts of a graph, which a builder gives.
+#[derive(Debug, Drop)]
+pub(crate) struct Parts {
+    pub props: Vec<PropDecl>,
+    pub hosts: Vec<HostDecl>,
+    pub spans: Vec<SpanDecl>,
+    pub nodes: Vec<Node>,
+    pub entry: u32,
+    pub finish: Option<(u32, u32)>,
+}
+
+/// A graph that keeps the rules. Contracts see it as its lists, its entry and its finish rule.
 #[derive(Debug, Drop)]
 pub struct Graph {
+    props: Listed<PropDecl>,
     hosts: Listed<HostDecl>,
+    spans: Listed<SpanDecl>,
     nodes: Listed<Node>,
     entry: u32,
+    finish: Option<(u32, u32)>,
 }
 
 impl Model for Graph {
@@ -27,22 +63,35 @@ impl Model for Graph {
 
     ghost Value = { Plan };
 
-    ghost view = { λ g. record { hosts = g.hosts; nodes = g.nodes; entry = g.entry } };
+    ghost view = { λ g. record { props = g.props; hosts = g.hosts; spans = g.spans; nodes = g.nodes; entry = g.entry; finish = g.finish } };
 
-    ghost invariant = { λ g. IsWellFormed (record { hosts = g.hosts; nodes = g.nodes; entry = g.entry }) };
+    ghost invariant = { λ g. IsWellFormed (record { props = g.props; hosts = g.hosts; spans = g.spans; nodes = g.nodes; entry = g.entry; finish = g.finish }) };
 }
 
 impl Graph {
+    ghost use Rattle.pp_graph.specs.Parts.{plan_of};
+
     /// A graph of these parts, which keep the rules.
-    pub(crate) fn of(hosts: Vec<HostDecl>, nodes: Vec<Node>, entry: u32) -> Graph
-        requires { IsWellFormed (record { hosts = hosts.items; nodes = nodes.items; entry = entry }) }
-        ensures { result ≡ record { hosts = hosts.items; nodes = nodes.items; entry = entry } }
+    pub(crate) fn of(parts: Parts) -> Graph
+        requires { IsWellFormed (plan_of parts) }
+        ensures { result ≡ plan_of parts }
     {
         Graph {
-            hosts: Listed::of(hosts),
-            nodes: Listed::of(nodes),
-            entry,
+            props: Listed::of(parts.props),
+            hosts: Listed::of(parts.hosts),
+            spans: Listed::of(parts.spans),
+            nodes: Listed::of(parts.nodes),
+            entry: parts.entry,
+            finish: parts.finish,
         }
+    }
+
+    /// The properties, in the order of their declarations.
+    pub fn props(&self) -> &[PropDecl]
+        ensures value { result.now ≡ self.now.props }
+        ensures well_formed { IsWellFormed self.now }
+    {
+        self.props.items()
     }
 
     /// The host codes, in the order of their declarations.
@@ -51,6 +100,14 @@ impl Graph {
         ensures well_formed { IsWellFormed self.now }
     {
         self.hosts.items()
+    }
+
+    /// The spans, in the order of their declarations.
+    pub fn spans(&self) -> &[SpanDecl]
+        ensures value { result.now ≡ self.now.spans }
+        ensures well_formed { IsWellFormed self.now }
+    {
+        self.spans.items()
     }
 
     /// The nodes, in the order of their declarations.
@@ -67,5 +124,13 @@ impl Graph {
         ensures well_formed { IsWellFormed self.now }
     {
         self.entry
+    }
+
+    /// The property and the host code of the finish rule, if there is one, by their places.
+    pub fn finish_rule(&self) -> Option<(u32, u32)>
+        ensures value { result ≡ self.now.finish }
+        ensures well_formed { IsWellFormed self.now }
+    {
+        self.finish
     }
 }

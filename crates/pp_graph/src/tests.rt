@@ -1,282 +1,645 @@
-// The builder and the form of names, on small tables.
-ghost use Rattle.std.specs.Prelude.{◌+◌, ◌<◌, ◌≤◌, length};
+// The builder with its rules and limits, on tables of calls that are written as lines of words.
+ghost use Rattle.std.specs.Prelude.{◌+◌, ◌<◌, ◌≤◌, length, IfOk, OnOk};
 
 use super::*;
+use pp_bytes::{Fold, read_number};
 use std::alloc::Global;
 use std::process::Abort;
 use std::test::Fail;
 
-// A call of the builder, with its texts.
-#[derive(Clone, Copy)]
-enum Line {
-    Host(&'static str),
-    Entry(&'static str),
-    Match(&'static str),
-    Invoke(&'static str, &'static str),
-    Fail(&'static str, &'static str),
-    Key(&'static str, &'static str),
-    Otherwise(&'static str),
-    Skip(&'static str),
+// The first word of a line, and the words behind it.
+fn word(line: &str) -> (&str, &str) {
+    line.split_once(" ").unwrap_or((line, ""))
 }
 
-// Makes the call, where its conditions hold.
-fn add(rt: &impl Abort, builder: &mut GraphBuilder, line: Line) -> Result<(), NoMemory>
-    requires { length builder.old < 1000 }
-    ensures { length builder.new ≤ length builder.old + 1 }
+fn number(rt: &impl Abort, word: &str) -> u64 {
+    match read_number(word.as_bytes()) {
+        Some(number) => number,
+        None => panic!(rt; "no number: {word}"),
+    }
+}
+
+// A number of 32 bits, or nothing where there is no word.
+fn carried(rt: &impl Abort, word: &str) -> Option<u32> {
+    if word.is_empty() {
+        return None;
+    }
+    u32::try_from(number(rt, word)).ok()
+}
+
+fn width(bits: &str) -> Width {
+    match bits {
+        "8" => Width::W8,
+        "16" => Width::W16,
+        "32" => Width::W32,
+        _ => Width::W64,
+    }
+}
+
+// Adds the declaration that the words name.
+fn declare(
+    rt: &impl Abort,
+    builder: &mut GraphBuilder,
+    verb: &str,
+    words: &str,
+) -> Result<(), NoMemory>
+    requires { length builder.old < 100000 }
+    ensures { OnOk result (length builder.new ≤ length builder.old + 1) }
 {
-    match line {
-        Line::Host(name) => {
-            assert!(rt; is_name(name.as_bytes()));
-            builder.host(name, false)
+    let (name, rest) = word(words);
+    assert!(rt; is_name(name.as_bytes()));
+    match verb {
+        "prop" => builder.prop(name, width(rest)),
+        "host" => builder.host(name, rest == "value"),
+        "span" => builder.span(name),
+        "entry" => builder.entry(name),
+        _ => {
+            assert!(rt; is_name(rest.as_bytes()));
+            builder.finish(name, rest)
         }
-        Line::Entry(node) => {
-            assert!(rt; is_name(node.as_bytes()));
-            builder.entry(node)
+    }
+}
+
+// Adds a node. Errors and pauses give the reason `over`.
+fn add_node(rt: &impl Abort, builder: &mut GraphBuilder, words: &str) -> Result<(), NoMemory>
+    requires { length builder.old < 100000 }
+    ensures { OnOk result (length builder.new ≤ length builder.old + 1) }
+{
+    let (name, rest) = word(words);
+    let (kind, rest) = word(rest);
+    let (used, rest) = word(rest);
+    assert!(rt; is_name(name.as_bytes()));
+    match kind {
+        "match" => builder.node(name, KindText::Match { fold: Fold::Same }),
+        "lower" => builder.node(name, KindText::Match { fold: Fold::Lower }),
+        "error" => {
+            assert!(rt; is_reason(b"over"));
+            builder.node(
+                name,
+                KindText::Fail {
+                    code: 7,
+                    reason: "over",
+                },
+            )
         }
-        Line::Match(name) => {
-            assert!(rt; is_name(name.as_bytes()));
-            builder.node(name, KindText::Match)
+        "pause" => {
+            assert!(rt; is_reason(b"over"));
+            builder.node(
+                name,
+                KindText::Pause {
+                    code: 21,
+                    reason: "over",
+                },
+            )
         }
-        Line::Invoke(name, host) => {
-            assert!(rt; is_name(name.as_bytes()));
-            assert!(rt; is_name(host.as_bytes()));
-            let code = CodeText::Call { host };
+        _ => {
+            assert!(rt; is_name(used.as_bytes()));
+            add_user(rt, builder, name, kind, used, rest)
+        }
+    }
+}
+
+// Adds a node that uses a property, a span or a host.
+fn add_user(
+    rt: &impl Abort,
+    builder: &mut GraphBuilder,
+    name: &str,
+    kind: &str,
+    used: &str,
+    rest: &str,
+) -> Result<(), NoMemory>
+    requires { length builder.old < 100000 }
+    ensures { OnOk result (length builder.new ≤ length builder.old + 1) }
+{
+    assert!(rt; is_name(name.as_bytes()));
+    assert!(rt; is_name(used.as_bytes()));
+    match kind {
+        "consume" => builder.node(name, KindText::Consume { prop: used }),
+        "open" => builder.node(name, KindText::SpanOpen { span: used }),
+        "close" => builder.node(name, KindText::SpanClose { span: used }),
+        "call" => builder.node(
+            name,
+            KindText::Invoke {
+                code: CodeText::Call { host: used },
+            },
+        ),
+        "store" => builder.node(
+            name,
+            KindText::Invoke {
+                code: CodeText::Store { prop: used },
+            },
+        ),
+        "load" => builder.node(
+            name,
+            KindText::Invoke {
+                code: CodeText::Load { prop: used },
+            },
+        ),
+        "equal" => {
+            let value = number(rt, rest);
+            builder.node(
+                name,
+                KindText::Invoke {
+                    code: CodeText::Equal { prop: used, value },
+                },
+            )
+        }
+        _ => {
+            let max = if rest.is_empty() {
+                None
+            } else {
+                Some(number(rt, rest))
+            };
+            let code = CodeText::MulAdd {
+                prop: used,
+                base: 10,
+                max,
+            };
             builder.node(name, KindText::Invoke { code })
         }
-        Line::Fail(name, reason) => {
-            assert!(rt; is_name(name.as_bytes()));
-            assert!(rt; is_reason(reason.as_bytes()));
-            builder.node(name, KindText::Fail { code: 7, reason })
-        }
-        Line::Key(bytes, target) => {
-            assert!(rt; is_name(target.as_bytes()));
+    }
+}
+
+// Adds an edge: its target, then its key, byte or number, then the number that it carries.
+fn add_edge(
+    rt: &impl Abort,
+    builder: &mut GraphBuilder,
+    verb: &str,
+    words: &str,
+) -> Result<(), NoMemory>
+    requires { length builder.old < 100000 }
+    ensures { OnOk result (length builder.new ≤ length builder.old + 1) }
+{
+    let (target, rest) = word(words);
+    let (key, rest) = word(rest);
+    assert!(rt; is_name(target.as_bytes()));
+    match verb {
+        "key" => {
             assert!(rt; matches!(builder.last_node(), LastNode::Match));
-            builder.key(bytes.as_bytes(), None, target)
+            builder.key(key.as_bytes(), carried(rt, rest), target)
         }
-        Line::Otherwise(target) => {
-            assert!(rt; is_name(target.as_bytes()));
-            assert!(rt; matches!(builder.last_node(), LastNode::Match | LastNode::Invoke));
-            assert!(rt; !builder.has_otherwise());
-            builder.otherwise(target)
+        "peek" => {
+            assert!(rt; matches!(builder.last_node(), LastNode::Match));
+            match key.as_bytes() {
+                [byte, ..] => builder.peek(*byte, target),
+                [] => panic!(rt; "no byte"),
+            }
         }
-        Line::Skip(target) => {
-            assert!(rt; is_name(target.as_bytes()));
+        "answer" => {
+            assert!(rt; matches!(builder.last_node(), LastNode::Invoke));
+            builder.answer(carried(rt, key).unwrap_or(0), target)
+        }
+        "skip" => {
             assert!(rt; matches!(builder.last_node(), LastNode::Match));
             assert!(rt; !builder.has_otherwise());
             builder.skip(target)
         }
+        _ => {
+            assert!(rt;
+                matches!(
+                    builder.last_node(),
+                    LastNode::Match | LastNode::Invoke | LastNode::Other
+                )
+            );
+            assert!(rt; !builder.has_otherwise());
+            builder.otherwise(target)
+        }
     }
 }
 
-// A builder after these calls.
-fn built(rt: &impl Abort, alloc: Global, lines: &[Line]) -> Result<GraphBuilder, NoMemory>
-    requires { length lines.now < 1000 }
+// Makes the call that a line tells, where its conditions hold.
+fn add(rt: &impl Abort, builder: &mut GraphBuilder, line: &str) -> Result<(), NoMemory>
+    requires { length builder.old < 100000 }
+    ensures { OnOk result (length builder.new ≤ length builder.old + 1) }
+{
+    let (verb, words) = word(line);
+    match verb {
+        "prop" | "host" | "span" | "entry" | "finish" => declare(rt, builder, verb, words),
+        "node" => add_node(rt, builder, words),
+        _ => add_edge(rt, builder, verb, words),
+    }
+}
+
+// A builder after at most 100 calls, which `; ` separates.
+fn told(rt: &impl Abort, alloc: Global, script: &str) -> Result<GraphBuilder, NoMemory>
+    ensures { IfOk result (λ builder. length builder ≤ 100) }
 {
     let mut builder = GraphBuilder::new(alloc);
-    for line in lines {
-        add(rt, &mut builder, *line)?;
+    let mut rest = script;
+    let mut count = 0usize;
+    while count < 100 && !rest.is_empty() {
+        let (line, behind) = rest.split_once("; ").unwrap_or((rest, ""));
+        add(rt, &mut builder, line)?;
+        rest = behind;
+        count += 1;
     }
     Ok(builder)
 }
 
-// Calls `hit` after each `a`.
-const HITS: [Line; 7] = [
-    Line::Host("hit"),
-    Line::Entry("start"),
-    Line::Match("start"),
-    Line::Key("a", "hit_it"),
-    Line::Skip("start"),
-    Line::Invoke("hit_it", "hit"),
-    Line::Otherwise("start"),
-];
-
-#[test]
-fn builds_two_nodes(rt: HostRuntime) -> Result<(), Fail> {
-    let graph = built(&rt, rt.alloc(), &HITS)?.close()?;
-    assert_eq!(rt; graph.hosts().len(), 1);
-    assert_eq!(rt; graph.hosts()[0].name.bytes(), b"hit".as_slice());
-    assert_eq!(rt; graph.hosts()[0].value, false);
-    assert_eq!(rt; graph.entry(), 0);
-    assert_eq!(rt; graph.nodes().len(), 2);
-    assert_eq!(rt; graph.nodes()[0].name.bytes(), b"start".as_slice());
-    match &graph.nodes()[0].kind {
-        Kind::Match { keys, other } => {
-            assert_eq!(rt; keys.items().len(), 1);
-            let key = &keys.items()[0];
-            assert_eq!(rt; key.bytes.items(), b"a".as_slice());
-            assert_eq!(rt; key.number, None);
-            assert_eq!(rt; key.target, 1);
-            assert_eq!(rt;
-                *other,
-                Other {
-                    skip: true,
-                    target: 0
-                }
-            );
-        }
-        _ => panic!(rt; "start is a match node"),
+// The rule that a builder's calls break, and the call.
+fn refusal(rt: &impl Abort, builder: GraphBuilder) -> Option<(GraphRule, u32)> {
+    match builder.close() {
+        Ok(_) => None,
+        Err(GraphFault::Broken { rule, call }) => Some((rule, call)),
+        Err(GraphFault::NoMemory) => panic!(rt; "out of memory"),
     }
-    assert_eq!(rt; graph.nodes()[1].name.bytes(), b"hit_it".as_slice());
-    match &graph.nodes()[1].kind {
-        Kind::Invoke { code, other } => {
-            assert_eq!(rt; *code, Code::Call { host: 0 });
-            assert_eq!(rt; *other, 0);
-        }
-        _ => panic!(rt; "hit_it is an invoke node"),
-    }
-    Ok(())
 }
 
-// A key of 65 bytes.
-const LONG: &str = "aaaaaaaaaabbbbbbbbbbccccccccccddddddddddeeeeeeeeeeffffffffffggggg";
-
-// Calls that break a rule, with the rule and the number of the call.
-const REFUSED: [(&[Line], GraphRule, u32); 11] = [
+// Calls, and the rule that they break with the number of the call: each rule, then its other ways to fail.
+const REFUSED: [(&str, GraphRule, u32); 27] = [
     (
-        &[Line::Entry("a"), Line::Fail("a", "x"), Line::Fail("a", "y")],
+        "entry a; node a error; node a error",
+        GraphRule::DuplicateName,
+        2,
+    ),
+    ("entry a; node a match; else b", GraphRule::UnknownName, 2),
+    ("node a error", GraphRule::NoEntry, 1),
+    ("entry a; node a match; key a x", GraphRule::NoOtherwise, 1),
+    (
+        "entry a; node a match; key a xy; peek a x; else a",
+        GraphRule::KeyClash,
+        3,
+    ),
+    (
+        "host hit match; entry start; node start match; key hit_it a; key hit_it abc; skip start; node hit_it call hit; else start",
+        GraphRule::PrefixGap,
+        4,
+    ),
+    (
+        "entry a; node a match; key a x 1; else a",
+        GraphRule::ValueTarget,
+        2,
+    ),
+    (
+        "prop p 8; entry a; node a equal p 256; else a",
+        GraphRule::ValueTooWide,
+        2,
+    ),
+    (
+        "entry a; node a match; key a ; else a",
+        GraphRule::EmptyKey,
+        2,
+    ),
+    (
+        "entry a; node a lower; key a aB; else a",
+        GraphRule::KeyNotFolded,
+        2,
+    ),
+    (
+        "entry a; node a match; key a aaaaaaaaaabbbbbbbbbbccccccccccddddddddddeeeeeeeeeeffffffffffggggg; else a",
+        GraphRule::TooMany,
+        2,
+    ),
+    (
+        "entry a; node a error; entry a",
         GraphRule::DuplicateName,
         2,
     ),
     (
-        &[Line::Host("a"), Line::Host("a"), Line::Fail("a", "x")],
+        "prop p 8; host hit match; finish p hit; finish p hit",
         GraphRule::DuplicateName,
-        1,
+        3,
     ),
     (
-        &[Line::Fail("a", "x"), Line::Entry("a"), Line::Entry("a")],
-        GraphRule::DuplicateName,
-        2,
-    ),
-    (
-        &[
-            Line::Entry("a"),
-            Line::Invoke("a", "h"),
-            Line::Otherwise("a"),
-        ],
+        "host p match; finish p p; entry a; node a error",
         GraphRule::UnknownName,
         1,
     ),
     (
-        &[Line::Entry("a"), Line::Match("a"), Line::Otherwise("b")],
+        "entry a; node a match; else A; node A error; node b match; else B",
         GraphRule::UnknownName,
-        2,
-    ),
-    (&[Line::Fail("a", "x")], GraphRule::NoEntry, 1),
-    (
-        &[Line::Entry("a"), Line::Match("a"), Line::Key("x", "a")],
-        GraphRule::NoOtherwise,
-        1,
+        5,
     ),
     (
-        &[
-            Line::Entry("a"),
-            Line::Match("a"),
-            Line::Key("x", "a"),
-            Line::Key("y", "a"),
-            Line::Key("x", "a"),
-            Line::Otherwise("a"),
-        ],
+        "host hit match; entry a; node a call hit; answer a 3; answer a 3; else a",
         GraphRule::KeyClash,
         4,
     ),
     (
-        &[
-            Line::Entry("a"),
-            Line::Match("a"),
-            Line::Key(LONG, "a"),
-            Line::Otherwise("a"),
-        ],
-        GraphRule::TooMany,
-        2,
-    ),
-    // The first rule that fails is told, and not the first call.
-    (
-        &[Line::Entry("b"), Line::Fail("a", "x"), Line::Fail("a", "y")],
-        GraphRule::DuplicateName,
-        2,
-    ),
-    (
-        &[Line::Match("a"), Line::Key("x", "a"), Line::Key("x", "a")],
-        GraphRule::NoEntry,
+        "entry a; node a match; peek a x; peek a x; else a",
+        GraphRule::KeyClash,
         3,
+    ),
+    (
+        "entry a; node a match; key a a; key a abcd; key a ab; else a",
+        GraphRule::PrefixGap,
+        3,
+    ),
+    (
+        "entry a; node a match; key a abc; key a a; else a",
+        GraphRule::PrefixGap,
+        3,
+    ),
+    (
+        "entry a; node a match; key a ; key a ab; else a",
+        GraphRule::PrefixGap,
+        3,
+    ),
+    (
+        "entry a; node a match; key a ; key a a; else a",
+        GraphRule::EmptyKey,
+        2,
+    ),
+    (
+        "prop p 8; entry a; node a store p; else end; node end error",
+        GraphRule::ValueTarget,
+        1,
+    ),
+    (
+        "prop p 8; entry a; node a match; key b x; else a; node b store p; else a",
+        GraphRule::ValueTarget,
+        3,
+    ),
+    (
+        "prop p 8; host ask value; entry a; node a error; finish p ask",
+        GraphRule::ValueTarget,
+        4,
+    ),
+    (
+        "prop p 8; entry a; node a match; key b x 256; else a; node b store p; else a",
+        GraphRule::ValueTooWide,
+        3,
+    ),
+    (
+        "prop p 8; entry a; node a error; node b muladd p 256; else a",
+        GraphRule::ValueTooWide,
+        3,
+    ),
+    (
+        "entry a; node a lower; peek a A; else a",
+        GraphRule::KeyNotFolded,
+        2,
     ),
 ];
 
 #[test]
-fn tells_the_first_rule_that_fails(rt: HostRuntime) -> Result<(), Fail> {
-    for (lines, rule, call) in REFUSED {
-        assert!(rt; lines.len() < 1000);
-        match built(&rt, rt.alloc(), lines)?.close() {
-            Ok(_) => panic!(rt; "a graph where {rule} was to be told"),
-            Err(fault) => assert_eq!(rt; fault, GraphFault::Broken { rule, call }),
+fn refuses_each_rule(rt: HostRuntime) -> Result<(), Fail> {
+    for (script, rule, call) in REFUSED {
+        let builder = told(&rt, rt.alloc(), script)?;
+        assert_eq!(rt; refusal(&rt, builder), Some((rule, call)), "{script}");
+    }
+    Ok(())
+}
+
+// Calls that break two rules: the first rule is told, also where it fails at a later call.
+const TWICE: [(&str, GraphRule, u32); 11] = [
+    (
+        "entry b; node a error; node a error",
+        GraphRule::DuplicateName,
+        2,
+    ),
+    ("node a match; else b", GraphRule::UnknownName, 1),
+    ("node a match; key a x; key a x", GraphRule::NoEntry, 3),
+    (
+        "entry a; node a match; key a x; key a x; else a; node b match",
+        GraphRule::NoOtherwise,
+        5,
+    ),
+    (
+        "entry a; node a match; key a x; key a xyz; key a x; else a",
+        GraphRule::KeyClash,
+        4,
+    ),
+    (
+        "entry a; node a match; key a x 1; key a y; key a yzz; else a",
+        GraphRule::PrefixGap,
+        4,
+    ),
+    (
+        "prop p 8; entry a; node b equal p 256; else a; node a match; key a x 1; else a",
+        GraphRule::ValueTarget,
+        5,
+    ),
+    (
+        "prop p 8; entry a; node a match; key a ; else a; node b equal p 256; else a",
+        GraphRule::ValueTooWide,
+        5,
+    ),
+    (
+        "entry a; node a lower; key a A; key a ; else a",
+        GraphRule::EmptyKey,
+        3,
+    ),
+    (
+        "entry a; node a match; key a aaaaaaaaaabbbbbbbbbbccccccccccddddddddddeeeeeeeeeeffffffffffggggg; else a; node b lower; key a A; else a",
+        GraphRule::KeyNotFolded,
+        5,
+    ),
+    (
+        "prop p 8; entry a; node a lower; key a A; else c; node b equal p 256; else a",
+        GraphRule::UnknownName,
+        4,
+    ),
+];
+
+#[test]
+fn tries_the_rules_in_their_order(rt: HostRuntime) -> Result<(), Fail> {
+    for (script, rule, call) in TWICE {
+        let builder = told(&rt, rt.alloc(), script)?;
+        assert_eq!(rt; refusal(&rt, builder), Some((rule, call)), "{script}");
+    }
+    Ok(())
+}
+
+// Adds so many things of a sort to a builder.
+fn add_many(
+    rt: &impl Abort,
+    alloc: Global,
+    builder: &mut GraphBuilder,
+    sort: &str,
+    count: u32,
+) -> Result<(), NoMemory>
+    requires { length builder.old ≤ 100 }
+    ensures { OnOk result (length builder.new < 30000) }
+{
+    assert!(rt; count <= 20001);
+    let mut i = 0;
+    while i < count {
+        let line = match sort {
+            "prop" => format!(in alloc; "prop p{i} 8")?,
+            "host" => format!(in alloc; "host h{i} match")?,
+            "span" => format!(in alloc; "span s{i}")?,
+            "node" => format!(in alloc; "node n{i} error")?,
+            "answer" => format!(in alloc; "answer end {i}")?,
+            "key" => format!(in alloc; "key end {i:04}")?,
+            _ => format!(in alloc; "key end {i:064}")?,
+        };
+        add(rt, builder, &line)?;
+        i += 1;
+    }
+    Ok(())
+}
+
+// Calls, what is added behind them, and how much of it may be: declarations, nodes, keys of a node, and the weight of
+// answers and of keys of 64 bytes.
+const LIMITS: [(&str, &str, u32); 7] = [
+    ("entry end; node end error", "prop", 64),
+    ("entry end; node end error", "host", 64),
+    ("entry end; node end error", "span", 32),
+    ("entry end; node end error", "node", 4095),
+    (
+        "entry end; node end error; node m match; else end",
+        "key",
+        2048,
+    ),
+    (
+        "host hit match; entry end; node end error; node c call hit; else end",
+        "answer",
+        20000,
+    ),
+    (
+        "entry end; node end error; node m match; else end",
+        "long key",
+        312,
+    ),
+];
+
+#[test]
+fn counts_up_to_its_limits(rt: HostRuntime) -> Result<(), Fail> {
+    for (script, sort, most) in LIMITS {
+        let mut builder = told(&rt, rt.alloc(), script)?;
+        add_many(&rt, rt.alloc(), &mut builder, sort, most)?;
+        assert_eq!(rt; refusal(&rt, builder), None, "{sort}");
+        let mut builder = told(&rt, rt.alloc(), script)?;
+        let before = script.split("; ").count() as u32;
+        add_many(&rt, rt.alloc(), &mut builder, sort, most + 1)?;
+        assert_eq!(rt;
+            refusal(&rt, builder),
+            Some((GraphRule::TooMany, before + most)),
+            "{sort}"
+        );
+    }
+    Ok(())
+}
+
+// Every adding call at least once.
+const WHOLE: &str =
+    "prop count 16; prop flags 8; host sum value; host hit match; span body; entry start; finish count hit; \
+    node stop error; node start lower; key open a; key store ab 255; peek shut x; skip start; node store store flags; else start; \
+    node asked call hit; answer start 1; answer stop 2; else pause; node open open body; else take; node take consume count; else start; \
+    node shut close body; else asked; node pause pause; else start; node loaded load flags; else start; node mul muladd count; else start";
+
+#[test]
+fn builds_a_graph_of_every_call(rt: HostRuntime) -> Result<(), Fail> {
+    let graph = told(&rt, rt.alloc(), WHOLE)?.close()?;
+    assert_eq!(rt;
+        (
+            graph.props().len(),
+            graph.hosts().len(),
+            graph.spans().len(),
+            graph.nodes().len()
+        ),
+        (2, 2, 1, 10)
+    );
+    assert_eq!(rt; graph.props()[0].width, Width::W16);
+    assert_eq!(rt; graph.spans()[0].name.bytes(), b"body".as_slice());
+    assert!(rt; graph.hosts()[0].value && !graph.hosts()[1].value);
+    assert_eq!(rt; (graph.entry(), graph.finish_rule()), (1, Some((0, 1))));
+    match &graph.nodes()[1].kind {
+        Kind::Match {
+            fold,
+            keys,
+            peeks,
+            other,
+        } => {
+            assert_eq!(rt;
+                (*fold, keys.items().len(), *other),
+                (
+                    Fold::Lower,
+                    2,
+                    Other {
+                        skip: true,
+                        target: 1
+                    }
+                )
+            );
+            let key = &keys.items()[1];
+            assert_eq!(rt;
+                (key.bytes.items(), key.number, key.target),
+                (b"ab".as_slice(), Some(255), 2)
+            );
+            assert_eq!(rt; peeks.items().len(), 1);
+            let peek = Peek {
+                byte: b'x',
+                target: 6,
+            };
+            assert_eq!(rt; peeks.items()[0], peek);
         }
+        _ => panic!(rt; "no match node"),
     }
     Ok(())
 }
 
 #[test]
-fn refuses_a_host_too_many(rt: HostRuntime) -> Result<(), Fail> {
-    let mut builder = GraphBuilder::new(rt.alloc());
-    for i in 0..65_u32 {
-        let name = format!(in rt.alloc(); "h{i}")?;
-        assert!(rt; is_name(name.as_str().as_bytes()));
-        builder.host(name.as_str(), true)?;
-    }
-    add(&rt, &mut builder, Line::Fail("end", "x"))?;
-    add(&rt, &mut builder, Line::Entry("end"))?;
-    match builder.close() {
-        Ok(_) => panic!(rt; "a graph of 65 hosts"),
-        Err(fault) => assert_eq!(rt;
-            fault,
-            GraphFault::Broken {
-                rule: GraphRule::TooMany,
-                call: 64
-            }
-        ),
+fn the_most_of_a_code_is_that_of_its_property(rt: HostRuntime) -> Result<(), Fail> {
+    let graph = told(&rt, rt.alloc(), WHOLE)?.close()?;
+    let most = Code::MulAdd {
+        prop: 0,
+        base: 10,
+        max: 65535,
+    };
+    match graph.nodes() {
+        [.., last] => match &last.kind {
+            Kind::Invoke { code, .. } => assert_eq!(rt; *code, most),
+            _ => panic!(rt; "no invoke node"),
+        },
+        [] => panic!(rt; "no node"),
     }
     Ok(())
 }
 
 #[test]
 fn knows_the_last_node(rt: HostRuntime) -> Result<(), Fail> {
-    assert_eq!(rt; GraphBuilder::new(rt.alloc()).last_node(), LastNode::None);
-    let skipped = built(&rt, rt.alloc(), &HITS[..5])?;
-    assert_eq!(rt; skipped.last_node(), LastNode::Match);
-    assert!(rt; skipped.has_otherwise());
-    let open = built(&rt, rt.alloc(), &HITS[..6])?;
-    assert_eq!(rt; open.last_node(), LastNode::Invoke);
-    assert!(rt; !open.has_otherwise());
+    for (script, last, closed) in [
+        ("entry a", LastNode::None, false),
+        ("node a match; key a x; else a", LastNode::Match, true),
+        (
+            "node a match; else a; node b call hit",
+            LastNode::Invoke,
+            false,
+        ),
+        ("node a open s; else a", LastNode::Other, true),
+        ("node a error", LastNode::Fail, false),
+    ] {
+        let builder = told(&rt, rt.alloc(), script)?;
+        assert_eq!(rt;
+            (builder.last_node(), builder.has_otherwise()),
+            (last, closed),
+            "{script}"
+        );
+    }
     Ok(())
 }
 
 #[test]
 fn tells_names_and_reasons(rt: HostRuntime) {
-    for (text, want) in [
-        ("", false),
-        ("_a1", true),
-        ("a-b", false),
-        ("1a", false),
-        ("a2345678901234567890123456789012", true),
-        ("a23456789012345678901234567890123", false),
-    ] {
-        assert_eq!(rt; is_name(text.as_bytes()), want, "name {text}");
-    }
-    for (text, want) in [
-        ("", false),
-        (" ~", true),
-        ("a\"b", false),
-        ("a\\b", false),
-        ("a\tb", false),
+    for (text, name, reason) in [
+        ("", false, false),
+        ("_a1", true, true),
+        ("a-b", false, true),
+        ("1a", false, true),
+        (" ~", false, true),
+        ("a\"b", false, false),
+        ("a\\b", false, false),
+        ("a\tb", false, false),
+        ("a2345678901234567890123456789012", true, true),
+        ("a23456789012345678901234567890123", false, true),
         (
             "12345678901234567890123456789012345678901234567890123456789012345678901234567890",
+            false,
             true,
         ),
         (
             "123456789012345678901234567890123456789012345678901234567890123456789012345678901",
             false,
+            false,
         ),
     ] {
-        assert_eq!(rt; is_reason(text.as_bytes()), want, "reason {text}");
+        assert_eq!(rt;
+            (is_name(text.as_bytes()), is_reason(text.as_bytes())),
+            (name, reason),
+            "{text}"
+        );
     }
 }
 
@@ -288,6 +651,11 @@ fn prints_faults(rt: HostRuntime) -> Result<(), Fail> {
         (GraphRule::NoEntry, "call 3: no entry"),
         (GraphRule::NoOtherwise, "call 3: no otherwise"),
         (GraphRule::KeyClash, "call 3: key clash"),
+        (GraphRule::PrefixGap, "call 3: prefix gap"),
+        (GraphRule::ValueTarget, "call 3: value target"),
+        (GraphRule::ValueTooWide, "call 3: value too wide"),
+        (GraphRule::EmptyKey, "call 3: empty key"),
+        (GraphRule::KeyNotFolded, "call 3: key not folded"),
         (GraphRule::TooMany, "call 3: too many"),
     ] {
         let fault = GraphFault::Broken { rule, call: 3 };

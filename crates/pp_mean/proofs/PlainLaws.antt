@@ -1,17 +1,24 @@
 -- A plain match node looks at one byte.
-use Rattle.std.proofs.Common.{subst, ◌≡◌, ℕ, zero, suc, ◌<◌, List, [], ◌∷◌, Option, Some, None, Bool, true, false, cond, refl, sym, ◌∙◌, ap, arith, length, get_or, drop, eqb, ◌||◌, ◌&&◌}
+use Rattle.std.proofs.Common.{subst, ◌≡◌, ℕ, zero, suc, ◌<◌, List, [], ◌∷◌, Option, Some, None, Bool, true, false, cond, refl, sym, ◌∙◌, ap, arith, length, get_or, drop, map, eqb, ◌||◌, ◌&&◌}
 use Rattle.std.proofs.Math.Nat.{zero-max}
 use Rattle.std.specs.Prelude.{slice_get, nat_lt, ◌==◌}
 use Rattle.std.proofs.lemmas.Bool.{eq-eqb, lt-leb}
 use Rattle.std.proofs.lemmas.Bool.Decides.{nat_tests}
+use Rattle.pp_bytes.specs.declared.fold.Fold.{Fold}
+use Rattle.pp_bytes.specs.declared.fold.Fold.TheVariants.{Same}
+use Rattle.pp_bytes.specs.Fold.{folded}
+use Rattle.pp_graph.specs.Plan.{Plan, Leads, AreEdges, FitsIn}
 use Rattle.pp_graph.specs.declared.node.Key.{Key}
+use Rattle.pp_graph.specs.declared.node.Peek.{Peek}
+use Rattle.pp_graph.specs.declared.node.Answer.{Answer}
+use Rattle.pp_graph.specs.declared.node.Code.{Code}
 use Rattle.pp_graph.specs.declared.node.Other.{Other}
 use Rattle.pp_graph.specs.declared.node.Kind.{Kind}
-use Rattle.pp_graph.specs.declared.node.Kind.TheVariants.{Match}
+use Rattle.pp_graph.specs.declared.node.Kind.TheVariants.{Match, Invoke}
 use Rattle.pp_mean.specs.Run.{Config, Turn}
 use Rattle.pp_mean.specs.Nodes.{to, kind_turn, match_turn, key_turn, common, reach, best, longer, goes_on}
 use Rattle.pp_mean.specs.Plain.{ArePlainKeys, IsPlainKind}
-use Rattle.pp_mean.specs.Steps.{plain_target, begins_with, BeginsWith}
+use Rattle.pp_mean.specs.Steps.{plain_target, begins_with, BeginsWith, HaveTargetsBelow}
 
 -- the key at a place, if it is of this byte
 pub target_at : (keys : List Key) (i byte : ℕ) (k d : Key) → k ≡ get_or keys i d → i < length keys → 0 < length k.bytes → get_or k.bytes 0 0 ≡ byte →
@@ -84,26 +91,59 @@ plain_turn c other (Some node) = to c node 1 0
 plain_turn c other None = to c other.target (cond other.skip 1 0) 0
 
 key-plain : (c : Config) (keys : List Key) (other : Other) (b : ℕ) (bytes : List ℕ) (o : Option Key) (t : Option ℕ) →
-    PlainBest o t (reach keys (b ∷ bytes)) → key_turn c keys other (b ∷ bytes) o ≡ plain_turn c other t
+    PlainBest o t (reach keys (b ∷ bytes)) → key_turn c keys [] other (b ∷ bytes) o ≡ plain_turn c other t
 key-plain c keys other b bytes (Some k) t h = rw (h.0, h.1, h.2) refl
 key-plain c keys other b bytes None t h = rw (h.0, h.1) refl
 
-match-plain : (c : Config) (keys : List Key) (other : Other) (b : ℕ) (bytes : List ℕ) → ArePlainKeys keys →
-    match_turn c keys other (b ∷ bytes) ≡ plain_turn c other (plain_target keys b)
+-- what a plain match node does where a byte comes next
+pub match-plain : (c : Config) (keys : List Key) (other : Other) (b : ℕ) (bytes : List ℕ) → ArePlainKeys keys →
+    match_turn c (b ∷ bytes) keys [] other (b ∷ bytes) ≡ plain_turn c other (plain_target keys b)
 match-plain c keys other b bytes h = rw (goes_on-plain keys b bytes h) (key-plain c keys other b bytes (best keys (b ∷ bytes)) (plain_target keys b) (plain-best keys b bytes h))
 
--- what a plain match node does where a byte comes next
-pub plain-kind : (kind : Kind) (keys : List Key) (other : Other) (c : Config) (rest : List ℕ) (b : ℕ) (bytes : List ℕ) →
-    kind ≡ Match keys other → IsPlainKind kind → rest ≡ b ∷ bytes → kind_turn kind c rest ≡ plain_turn c other (plain_target keys b)
-plain-kind kind keys other c rest b bytes e h r =
-    let plain : ArePlainKeys keys = subst IsPlainKind e h in
-    let goal : Turn = plain_turn c other (plain_target keys b) in
-    let same_rest : kind_turn (Match keys other) c rest ≡ goal =
-    subst (λ (l : List ℕ). kind_turn (Match keys other) c l ≡ goal) (sym r) (match-plain c keys other b bytes plain) in
-    subst (λ (k : Kind). kind_turn k c rest ≡ goal) (sym e) same_rest
+pub match-plain_at : (c : Config) (keys : List Key) (other : Other) (rest : List ℕ) (b : ℕ) (bytes : List ℕ) → ArePlainKeys keys → rest ≡ b ∷ bytes →
+    match_turn c rest keys [] other rest ≡ plain_turn c other (plain_target keys b)
+match-plain_at c keys other rest b bytes h r =
+    subst (λ (l : List ℕ). match_turn c l keys [] other l ≡ plain_turn c other (plain_target keys b)) (sym r) (match-plain c keys other b bytes h)
 
-pub plain-keys : (kind : Kind) (keys : List Key) (other : Other) → kind ≡ Match keys other → IsPlainKind kind → ArePlainKeys keys
-plain-keys kind keys other e h = subst IsPlainKind e h
+-- Same keeps bytes as they are
+map-Same : (bytes : List ℕ) → map (folded Same) bytes ≡ bytes
+map-Same [] = refl
+map-Same (b ∷ bytes) = ap (λ l. b ∷ l) (map-Same bytes)
+
+-- the turn of a match node that is plain, of any fold and peeks that it is plain with
+pub plain-turn_of : (fold : Fold) (keys : List Key) (peeks : List Peek) (other : Other) (c : Config) (rest : List ℕ) → IsPlainKind (Match fold keys peeks other) →
+    kind_turn (Match fold keys peeks other) c rest ≡ match_turn c rest keys [] other rest
+plain-turn_of fold keys peeks other c rest h =
+    ap (λ (f : Fold). match_turn c rest keys peeks other (map (folded f) rest)) h.0
+    ∙ ap (λ (l : List ℕ). match_turn c rest keys peeks other l) (map-Same rest)
+    ∙ ap (λ (p : List Peek). match_turn c rest keys p other rest) h.1.0
+
+-- the keys of a plain match node are plain
+pub plain-keys : (kind : Kind) (fold : Fold) (keys : List Key) (peeks : List Peek) (other : Other) → kind ≡ Match fold keys peeks other → IsPlainKind kind → ArePlainKeys keys
+plain-keys kind fold keys peeks other e h = let p : IsPlainKind (Match fold keys peeks other) = subst IsPlainKind e h in p.1.1
+
+-- an edge leads below the count of nodes
+slice_get-below : {X : Type 0} (xs : List X) (i : ℕ) (x : X) → slice_get xs i ≡ Some x → i < length xs
+slice_get-below [] i x e = absurd cc
+slice_get-below (y ∷ xs) zero x e = omega arith
+slice_get-below (y ∷ xs) (suc i) x e = let h : i < length xs = slice_get-below xs i x e in omega arith
+
+pub leads-below : (g : Plan) (number : Option ℕ) (target : ℕ) → Leads g number target → target < length g.nodes
+leads-below g None target l = slice_get-below g.nodes target l.0 l.1
+leads-below g (Some n) target l = slice_get-below g.nodes target l.0 l.1
+
+pub keys-below : (g : Plan) (fold : Fold) (keys : List Key) (peeks : List Peek) → AreEdges g fold keys peeks → HaveTargetsBelow (length g.nodes) keys
+keys-below g fold keys peeks h i k e = leads-below g k.number k.target (h.each_key i k e).leads
+
+pub match-leads : (g : Plan) (kind : Kind) (fold : Fold) (keys : List Key) (peeks : List Peek) (other : Other) → kind ≡ Match fold keys peeks other → FitsIn g kind → HaveTargetsBelow (length g.nodes) keys × (other.target < length g.nodes)
+match-leads g kind fold keys peeks other e h =
+    let fits : FitsIn g (Match fold keys peeks other) = subst (FitsIn g) e h in
+    (keys-below g fold keys peeks fits.0, leads-below g None other.target fits.1)
+
+pub invoke-leads : (g : Plan) (kind : Kind) (what : Code) (answers : List Answer) (other : ℕ) → kind ≡ Invoke what answers other → FitsIn g kind → other < length g.nodes
+invoke-leads g kind what answers other e h =
+    let fits : FitsIn g (Invoke what answers other) = subst (FitsIn g) e h in
+    leads-below g None other fits.2
 
 pub next_byte : (next : Option ℕ) (b : ℕ) (rest : List ℕ) → next ≡ Some b → BeginsWith next rest → (bytes : List ℕ) × (rest ≡ b ∷ bytes)
 next_byte next b rest e h = subst (λ (n : Option ℕ). BeginsWith n rest) e h

@@ -320,7 +320,7 @@ turning_from g bytes items node at seen nodes d next v come same read fresh is =
 
 -- the node at hand fits in the graph
 pub fits_here : (g : Plan) (bytes : List ℕ) (items : List Item) (node at : ℕ) (seen : List ℕ) (n : Node) (next : Option ℕ) →
-    Turning g bytes items node at seen n next → IsWellFormed g → FitsIn (length g.hosts) (length g.nodes) n.kind
+    Turning g bytes items node at seen n next → IsWellFormed g → FitsIn g n.kind
 fits_here g bytes items node at seen n next turning well_formed = well_formed.kinds node n turning.node_is
 
 NoneTwice-split : {X : Type 0} (xs : List X) (x : X) (ys : List X) → NoneTwice (xs ++ x ∷ ys) → Contains xs x → ⊥

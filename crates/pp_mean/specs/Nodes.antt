@@ -1,15 +1,18 @@
 -- What a node of a graph does at a configuration, with these bytes left. A match node reads whole keys.
-use Rattle.std.specs.Prelude.{ℕ, suc, ◌+◌, List, [], ◌∷◌, Option, Some, None, Bool, true, false, ◌&&◌, ◌||◌, not, length, max, slice_get, nat_lt, ◌==◌, if◌then◌else◌, unwrap_or}
+use Rattle.std.specs.Prelude.{ℕ, zero, suc, ◌+◌, ◌-◌, ◌*◌, List, [], ◌∷◌, Option, Some, None, Bool, true, false, ◌&&◌, ◌||◌, not, length, map, max, slice_get, slice_index, slice_set, nat_lt, nat_le, ◌==◌, if◌then◌else◌, unwrap_or, bit_and, bit_or, find}
 use Rattle.std.specs.List.{list_any}
+use Rattle.pp_bytes.specs.Fold.{folded}
+use Rattle.pp_graph.specs.declared.node.Answer.{Answer}
 use Rattle.pp_graph.specs.declared.node.Code.{Code}
 use Rattle.pp_graph.specs.declared.node.Code.TheVariants as code
 use Rattle.pp_graph.specs.declared.node.Key.{Key}
+use Rattle.pp_graph.specs.declared.node.Peek.{Peek}
 use Rattle.pp_graph.specs.declared.node.Other.{Other}
 use Rattle.pp_graph.specs.declared.node.Kind.{Kind}
-use Rattle.pp_graph.specs.declared.node.Kind.TheVariants.{Match, Invoke, Fail}
+use Rattle.pp_graph.specs.declared.node.Kind.TheVariants.{Match, Invoke, Consume, SpanOpen, SpanClose, Pause, Fail}
 use Rattle.pp_graph.specs.declared.node.Node.{Node}
 use Rattle.pp_graph.specs.Plan.{Plan}
-use Rattle.pp_mean.specs.Run.{Config, Turn, Goes, Asks, Rests, Breaks, Machine}
+use Rattle.pp_mean.specs.Run.{Config, Turn, Goes, Asks, Rests, Breaks, Unsaid, Machine}
 
 -- the length of the longest common prefix
 abbrev pub common : List ℕ → List ℕ → ℕ
@@ -51,30 +54,88 @@ to c node taken number = Goes (record { node = node; at = c.at + taken; carried 
 abbrev pub other_turn : Config → Other → ℕ → Turn
 other_turn c other reached = to c other.target (if other.skip then reached + 1 else reached) 0
 
--- the longest key that fits, else the otherwise behind the longest common prefix
-abbrev pub key_turn : Config → List Key → Other → List ℕ → Option Key → Turn
-key_turn c keys other rest (Some k) = to c k.target (length k.bytes) (unwrap_or k.number 0)
-key_turn c keys other rest None = other_turn c other (reach keys rest)
+-- the peek edge of the byte that comes first
+abbrev pub peek_at : List Peek → List ℕ → Option Peek
+peek_at peeks [] = None
+peek_at peeks (b ∷ bytes) = find (λ (p : Peek). p.byte == b) peeks
 
--- a match node waits where a key may still come whole, and without a byte where it looks at one
-abbrev pub waits : List Key → Other → List ℕ → Bool
-waits keys other rest = goes_on keys rest || (is_empty rest && (not (is_empty keys) || other.skip))
+-- where no key fits: a peek edge, which is there only where no key begins with the byte, else the otherwise behind
+-- the longest common prefix
+abbrev pub peek_turn : Config → Other → ℕ → Option Peek → Turn
+peek_turn c other zero (Some p) = to c p.target 0 0
+peek_turn c other zero None = other_turn c other 0
+peek_turn c other (suc m) p = other_turn c other (suc m)
+
+-- the longest key that fits, else a peek or the otherwise
+abbrev pub key_turn : Config → List Key → List Peek → Other → List ℕ → Option Key → Turn
+key_turn c keys peeks other bytes (Some k) = to c k.target (length k.bytes) (unwrap_or k.number 0)
+key_turn c keys peeks other bytes None = peek_turn c other (reach keys bytes) (peek_at peeks bytes)
+
+-- a match node waits where a key may still come whole, and without a byte where it looks at one. These are the
+-- bytes that are left, as the node compares them.
+abbrev pub waits : List Key → List Peek → Other → List ℕ → Bool
+waits keys peeks other bytes =
+    goes_on keys bytes || (is_empty bytes && (not (is_empty keys) || not (is_empty peeks) || other.skip))
 
 -- behind all the bytes that are left
 abbrev pub rests_at : Config → List ℕ → Config
 rests_at c rest = record c { at = c.at + length rest; carried = 0 }
 
-abbrev pub match_turn : Config → List Key → Other → List ℕ → Turn
-match_turn c keys other rest =
-    if waits keys other rest then Rests (rests_at c rest) else key_turn c keys other rest (best keys rest)
+abbrev pub match_turn : Config → List ℕ → List Key → List Peek → Other → List ℕ → Turn
+match_turn c rest keys peeks other bytes =
+    if waits keys peeks other bytes then Rests (rests_at c rest) else key_turn c keys peeks other bytes (best keys bytes)
 
--- what a code does; the node goes on to its otherwise
-abbrev pub code_turn : Config → ℕ → Code → Turn
-code_turn c other (code.Call host) = Asks host c.carried (λ answer. record c { node = other; carried = 0 })
+-- the edge with the answer's number, else the otherwise
+abbrev pub target_or : ℕ → Option Answer → ℕ
+target_or other None = other
+target_or other (Some a) = a.target
 
+abbrev pub answered : List Answer → ℕ → ℕ → ℕ
+answered answers other n = target_or other (find (λ (a : Answer). a.number == n) answers)
+
+-- to a node without taking a byte
+abbrev pub moved : Config → ℕ → Turn
+moved c node = Goes (record c { node = node; carried = 0 }) 0 []
+
+-- to a node, with a value of a property changed
+abbrev pub setting : Config → ℕ → ℕ → ℕ → Turn
+setting c node prop value = Goes (record { node = node; at = c.at; carried = 0; values = slice_set c.values prop value }) 0 []
+
+-- what a code does; `edge` gives the node for an answer
+abbrev pub code_turn : Config → (ℕ → ℕ) → Code → Turn
+code_turn c edge (code.Call host) = Asks host c.carried (λ answer. record c { node = edge answer; carried = 0 })
+code_turn c edge (code.Store prop) = setting c (edge 0) prop c.carried
+code_turn c edge (code.Load prop) = moved c (edge (slice_index c.values prop))
+code_turn c edge (code.Update prop value) = setting c (edge 0) prop value
+code_turn c edge (code.Equal prop value) = moved c (edge (if slice_index c.values prop == value then 1 else 0))
+code_turn c edge (code.And prop value) = setting c (edge 0) prop (bit_and (slice_index c.values prop) value)
+code_turn c edge (code.Or prop value) = setting c (edge 0) prop (bit_or (slice_index c.values prop) value)
+code_turn c edge (code.Test prop value) = moved c (edge (if bit_and (slice_index c.values prop) value == value then 1 else 0))
+code_turn c edge (code.MulAdd prop base most) =
+    let product = slice_index c.values prop * base + c.carried in
+    if nat_lt most product then moved c (edge 1) else setting c (edge 0) prop product
+
+-- behind all v bytes of a consume, and behind the n bytes that are left of them
+abbrev pub consumed : Config → ℕ → ℕ → ℕ → Config
+consumed c prop next v = record { node = next; at = c.at + v; carried = 0; values = slice_set c.values prop 0 }
+
+abbrev pub drained : Config → ℕ → ℕ → ℕ → Config
+drained c prop v n = record c { at = c.at + n; carried = 0; values = slice_set c.values prop (v - n) }
+
+-- takes as many bytes as a property says
+abbrev pub consume_turn : Config → List ℕ → ℕ → ℕ → Turn
+consume_turn c rest prop next =
+    let v = slice_index c.values prop in
+    if nat_le v (length rest) then Goes (consumed c prop next v) v [] else Rests (drained c prop v (length rest))
+
+-- spans and pauses are not said yet
 abbrev pub kind_turn : Kind → Config → List ℕ → Turn
-kind_turn (Match keys other) c rest = match_turn c keys other rest
-kind_turn (Invoke what other) c rest = code_turn c other what
+kind_turn (Match fold keys peeks other) c rest = match_turn c rest keys peeks other (map (folded fold) rest)
+kind_turn (Invoke what answers other) c rest = code_turn c (answered answers other) what
+kind_turn (Consume prop next) c rest = consume_turn c rest prop next
+kind_turn (SpanOpen span next) c rest = Unsaid
+kind_turn (SpanClose span next) c rest = Unsaid
+kind_turn (Pause number reason next) c rest = Unsaid
 kind_turn (Fail number reason) c rest = Breaks number
 
 -- a place without a node has no move

@@ -21,11 +21,15 @@ pub data Turn : Type 0 where
   Rests : Config → Turn
   -- fails with a code
   Breaks : (code : ℕ) → Turn
+  -- does what these definitions don't say yet
+  Unsaid : Turn
 
 -- how a run ended
 pub data Finish : Type 0 where
   Waiting : Finish
   Broken : (code : ℕ) → Finish
+  -- it came to what these definitions don't say yet
+  Open : Finish
 
 -- a run at some moment: where it stands, the bytes that are left, and the items so far
 pub record Stage : Type 0 where
@@ -60,6 +64,7 @@ move_by oracle s (Asks code value next) =
     On (telling s (Call code value s.config.at s.config.values answer ∷ []) (next answer) s.rest)
 move_by oracle s (Rests d) = ends Waiting (record s { config = d; rest = [] })
 move_by oracle s (Breaks code) = ends (Broken code) s
+move_by oracle s Unsaid = ends Open s
 
 abbrev pub move : Machine → Oracle → Stage → Move Stage Result
 move turn oracle s = move_by oracle s (turn s.config s.rest)

@@ -1,5 +1,5 @@
 -- What one step of `run_whole` does, and the turn of the meaning that it is.
-use Rattle.std.specs.Prelude.{◌≡◌, ℕ, ◌<◌, List, [], ◌∷◌, Option, Some, None, Bool, false, if◌then◌else◌, ◌==◌}
+use Rattle.std.specs.Prelude.{◌≡◌, ℕ, ◌<◌, List, [], ◌∷◌, Option, Some, None, Bool, false, if◌then◌else◌, ◌==◌, slice_get}
 use Rattle.pp_graph.specs.declared.node.Key.{Key}
 use Rattle.pp_mean.specs.Run.{Config, Turn, Asks, Rests, Breaks}
 use Rattle.pp_mean.specs.Nodes.{to}
@@ -33,6 +33,10 @@ NeedsNoByte (step.Goes node takes) = takes ≡ false
 NeedsNoByte (step.Asks host node) = Unit {0}
 NeedsNoByte step.Waits = Unit {0}
 NeedsNoByte (step.Breaks code) = Unit {0}
+
+-- every key leads below n
+abbrev pub HaveTargetsBelow : ℕ → List Key → Type 0
+HaveTargetsBelow n keys = (i : ℕ) (k : Key) → slice_get keys i ≡ Some k → k.target < n
 
 -- a step leads below n
 abbrev pub LeadsBelow : ℕ → Step → Type 0

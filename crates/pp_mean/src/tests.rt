@@ -2,16 +2,19 @@
 ghost use Rattle.std.specs.Prelude.{◌≡◌, ◌<◌};
 
 use super::*;
+use pp_bytes::Fold;
 use pp_graph::{CodeText, Graph, GraphBuilder, GraphFault, KindText};
 use std::alloc::Global;
 use std::test::Fail;
+
+const PLAIN_MATCH: KindText<'static> = KindText::Match { fold: Fold::Same };
 
 // Calls `hit` after each `a`.
 fn calls_after_a(alloc: Global) -> Result<Graph, GraphFault> {
     let mut builder = GraphBuilder::new(alloc);
     builder.host("hit", false)?;
     builder.entry("start")?;
-    builder.node("start", KindText::Match)?;
+    builder.node("start", PLAIN_MATCH)?;
     builder.key(b"a", None, "hit_it")?;
     builder.skip("start")?;
     let code = CodeText::Call { host: "hit" };
@@ -24,12 +27,12 @@ fn calls_after_a(alloc: Global) -> Result<Graph, GraphFault> {
 fn loops_at_x(alloc: Global) -> Result<Graph, GraphFault> {
     let mut builder = GraphBuilder::new(alloc);
     builder.entry("run")?;
-    builder.node("run", KindText::Match)?;
+    builder.node("run", PLAIN_MATCH)?;
     builder.key(b"b", None, "run")?;
     builder.otherwise("one")?;
-    builder.node("one", KindText::Match)?;
+    builder.node("one", PLAIN_MATCH)?;
     builder.otherwise("two")?;
-    builder.node("two", KindText::Match)?;
+    builder.node("two", PLAIN_MATCH)?;
     builder.otherwise("one")?;
     builder.close()
 }

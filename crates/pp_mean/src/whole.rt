@@ -1,5 +1,5 @@
 // The run of a plain graph on a whole string.
-ghost use Rattle.std.specs.Prelude.{◌≡◌, ℕ, Option, IfOk, IfErr, OnOk, slice_get, [], ◌∷◌, ◌++◌};
+ghost use Rattle.std.specs.Prelude.{◌≡◌, ◌<◌, length, ℕ, Option, IfOk, IfErr, OnOk, slice_get, [], ◌∷◌, ◌++◌};
 ghost use Rattle.pp_mean.specs.declared.item.Item.TheVariants.{Call};
 ghost use Rattle.pp_mean.specs.Plain.{IsPlain};
 ghost use Rattle.pp_mean.specs.Whole.{IsRun, ComesBack, IsLoop};
@@ -71,6 +71,14 @@ fn push_call(alloc: Global, items: &mut Vec<Item>, code: u32, at: u64) -> Result
     Ok(())
 }
 
+// The place of the node where a run begins.
+fn entry_of(graph: &Graph) -> u32
+    ensures value { result ≡ graph.now.entry }
+    ensures below { result < length graph.now.nodes }
+{
+    graph.entry()
+}
+
 /// The run of a plain graph on the whole string, each host answer being 0.
 ///
 /// `Loop` comes exactly where this run comes to a node twice at one place.
@@ -84,7 +92,7 @@ pub fn run_whole(alloc: Global, graph: &Graph, bytes: &[u8]) -> Result<WholeRun,
     let nodes = graph.nodes();
     let mut seen: Vec<usize> = vec![in alloc; 0usize; nodes.len()]?;
     let mut items: Vec<Item> = Vec::new(alloc);
-    let mut node = graph.entry();
+    let mut node = entry_of(graph);
     let mut at: usize = 0;
     'run: loop {
         let next = byte_at(bytes, at);

@@ -1,30 +1,16 @@
-use Rattle.std.proofs.Common.{subst, sym, ◌∙◌, ap, ◌≡◌, Some, None, ℕ, List, ◌∷◌}
-use Rattle.pp_graph.specs.Plan.{AreKeys, FitsIn}
+use Rattle.std.proofs.Common.{subst, sym, ◌<◌, length}
 use Rattle.pp_mean.specs.Plain.{ArePlainKeys}
-use Rattle.pp_mean.specs.Steps.{plain_target}
-use Rattle.pp_mean.proofs.PlainLaws.{plain-keys, plain-kind, plain_turn, next_byte}
+use Rattle.pp_mean.specs.Steps.{HaveTargetsBelow}
+use Rattle.pp_mean.proofs.PlainLaws.{plain-keys, match-leads, invoke-leads}
 use Rattle.pp_mean.proofs.step.step_of.Goals as goal
 
-pub target_of-requires : goal.target_of-requires
-target_of-requires c = subst ArePlainKeys (sym c.items.ensures) (plain-keys _ _ _ c.in-Match.is c.requires)
+pub match_step-requires : goal.match_step-requires
+match_step-requires c = subst ArePlainKeys (sym c.items.ensures) (plain-keys _ _ _ _ _ c.in-Match.is c.requires)
 
-pub returns-in-Some-target_of-clause-turn : goal.returns-in-Some-target_of-clause-turn
-returns-in-Some-target_of-clause-turn c c' rest begins =
-    let next : (bytes : List ℕ) × (rest ≡ c.in-Some.byte ∷ bytes) = next_byte c.args.next c.in-Some.byte rest c.in-Some.is begins in
-    let target : plain_target c.in-Match.keys c.in-Some.byte ≡ Some c.in-Some-target_of.node =
-    sym (ap (λ (l : List _). plain_target l c.in-Some.byte) c.items.ensures) ∙ sym c.target_of.ensures.target ∙ c.in-Some-target_of.is in
-    plain-kind _ _ c.in-Match.other c' rest c.in-Some.byte next.0 c.in-Match.is c.requires next.1
-    ∙ ap (plain_turn c' c.in-Match.other) target
+pub returns-in-Match-clause-leads : goal.returns-in-Match-clause-leads
+returns-in-Match-clause-leads c g fits =
+    let leads : HaveTargetsBelow (length g.nodes) c.in-Match.keys × (c.in-Match.other.target < length g.nodes) = match-leads g _ _ _ _ _ c.in-Match.is fits in
+    c.match_step.ensures.leads (length g.nodes) (subst (HaveTargetsBelow (length g.nodes)) (sym c.items.ensures) leads.0) leads.1
 
-pub returns-in-None-target_of-clause-turn : goal.returns-in-None-target_of-clause-turn
-returns-in-None-target_of-clause-turn c c' rest begins =
-    let next : (bytes : List ℕ) × (rest ≡ c.in-Some.byte ∷ bytes) = next_byte c.args.next c.in-Some.byte rest c.in-Some.is begins in
-    let target : plain_target c.in-Match.keys c.in-Some.byte ≡ None =
-    sym (ap (λ (l : List _). plain_target l c.in-Some.byte) c.items.ensures) ∙ sym c.target_of.ensures.target ∙ c.in-None-target_of.is in
-    plain-kind _ _ c.in-Match.other c' rest c.in-Some.byte next.0 c.in-Match.is c.requires next.1
-    ∙ ap (plain_turn c' c.in-Match.other) target
-
-pub returns-in-Some-target_of-clause-leads : goal.returns-in-Some-target_of-clause-leads
-returns-in-Some-target_of-clause-leads c hosts nodes fits =
-    let keys : AreKeys nodes c.in-Match.keys = (subst (FitsIn hosts nodes) c.in-Match.is fits).0 in
-    c.in-Some-target_of.ensures.below nodes (subst (AreKeys nodes) (sym c.items.ensures) keys)
+pub returns-in-Invoke-Call-default-default-clause-leads : goal.returns-in-Invoke-Call-default-default-clause-leads
+returns-in-Invoke-Call-default-default-clause-leads c g fits = invoke-leads g _ _ _ _ c.in-Invoke-Call-default-default.is fits

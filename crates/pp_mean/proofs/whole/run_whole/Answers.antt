@@ -7,32 +7,32 @@ use Rattle.pp_mean.proofs.whole.run_whole.Goals as goal
 pub run-smaller-then-takes : goal.run-smaller-then-takes
 run-smaller-then-takes c =
     let turning = turning_from _ _ _ _ _ _ _ c.index-nodes-node.result _ _ c.run.invariant.come c.run.invariant.same c.index.ensures c.if-index-at.false c.byte_at-next.ensures in
-    (takes_byte _ _ _ _ _ _ _ _ turning c.in-Goes.target c.in-Goes.takes c.in-Goes.ensures.turn c.in-Goes.ensures.takes c.if-takes.true (c.in-Goes.ensures.leads _ _ (fits_here _ _ _ _ _ _ _ _ turning c.nodes-nodes.ensures.well_formed))).1
+    (takes_byte _ _ _ _ _ _ _ _ turning c.in-Goes.target c.in-Goes.takes c.in-Goes.ensures.turn c.in-Goes.ensures.takes c.if-takes.true (c.in-Goes.ensures.leads _ (fits_here _ _ _ _ _ _ _ _ turning c.nodes-nodes.ensures.well_formed))).1
 
 pub run-preserved-then-takes : goal.run-preserved-then-takes
 run-preserved-then-takes c =
     let turning = turning_from _ _ _ _ _ _ _ c.index-nodes-node.result _ _ c.run.invariant.come c.run.invariant.same c.index.ensures c.if-index-at.false c.byte_at-next.ensures in
-    record { come = (takes_byte _ _ _ _ _ _ _ _ turning c.in-Goes.target c.in-Goes.takes c.in-Goes.ensures.turn c.in-Goes.ensures.takes c.if-takes.true (c.in-Goes.ensures.leads _ _ (fits_here _ _ _ _ _ _ _ _ turning c.nodes-nodes.ensures.well_formed))).0; same = c.run.invariant.same }
+    record { come = (takes_byte _ _ _ _ _ _ _ _ turning c.in-Goes.target c.in-Goes.takes c.in-Goes.ensures.turn c.in-Goes.ensures.takes c.if-takes.true (c.in-Goes.ensures.leads _ (fits_here _ _ _ _ _ _ _ _ turning c.nodes-nodes.ensures.well_formed))).0; same = c.run.invariant.same }
 
 pub run-smaller-else-takes : goal.run-smaller-else-takes
 run-smaller-else-takes c =
     let turning = turning_from _ _ _ _ _ _ _ c.index-nodes-node.result _ _ c.run.invariant.come c.run.invariant.same c.index.ensures c.if-index-at.false c.byte_at-next.ensures in
-    (takes_none _ _ _ _ _ _ _ _ turning c.in-Goes.target c.in-Goes.takes c.in-Goes.ensures.turn c.if-takes.false (c.in-Goes.ensures.leads _ _ (fits_here _ _ _ _ _ _ _ _ turning c.nodes-nodes.ensures.well_formed))).1
+    (takes_none _ _ _ _ _ _ _ _ turning c.in-Goes.target c.in-Goes.takes c.in-Goes.ensures.turn c.if-takes.false (c.in-Goes.ensures.leads _ (fits_here _ _ _ _ _ _ _ _ turning c.nodes-nodes.ensures.well_formed))).1
 
 pub run-preserved-else-takes : goal.run-preserved-else-takes
 run-preserved-else-takes c =
     let turning = turning_from _ _ _ _ _ _ _ c.index-nodes-node.result _ _ c.run.invariant.come c.run.invariant.same c.index.ensures c.if-index-at.false c.byte_at-next.ensures in
-    record { come = (takes_none _ _ _ _ _ _ _ _ turning c.in-Goes.target c.in-Goes.takes c.in-Goes.ensures.turn c.if-takes.false (c.in-Goes.ensures.leads _ _ (fits_here _ _ _ _ _ _ _ _ turning c.nodes-nodes.ensures.well_formed))).0; same = c.run.invariant.same }
+    record { come = (takes_none _ _ _ _ _ _ _ _ turning c.in-Goes.target c.in-Goes.takes c.in-Goes.ensures.turn c.if-takes.false (c.in-Goes.ensures.leads _ (fits_here _ _ _ _ _ _ _ _ turning c.nodes-nodes.ensures.well_formed))).0; same = c.run.invariant.same }
 
 pub run-smaller : goal.run-smaller
 run-smaller c =
     let turning = turning_from _ _ _ _ _ _ _ c.index-nodes-node.result _ _ c.run.invariant.come c.run.invariant.same c.index.ensures c.if-index-at.false c.byte_at-next.ensures in
-    (asks _ _ _ _ _ _ _ _ turning c.in-Asks.target c.in-Asks.host c.in-Asks.ensures.turn (c.in-Asks.ensures.leads _ _ (fits_here _ _ _ _ _ _ _ _ turning c.nodes-nodes.ensures.well_formed))).1
+    (asks _ _ _ _ _ _ _ _ turning c.in-Asks.target c.in-Asks.host c.in-Asks.ensures.turn (c.in-Asks.ensures.leads _ (fits_here _ _ _ _ _ _ _ _ turning c.nodes-nodes.ensures.well_formed))).1
 
 pub run-preserved : goal.run-preserved
 run-preserved c =
     let turning = turning_from _ _ _ _ _ _ _ c.index-nodes-node.result _ _ c.run.invariant.come c.run.invariant.same c.index.ensures c.if-index-at.false c.byte_at-next.ensures in
-    record { come = subst (λ (l : List Item). Comes c.args.graph.now c.args.bytes.now l c.in-Asks.target c.run.at (set c.run.seen.items c.run.node (c.run.at + 1))) (sym c.in_ok-push_call-in-Asks.ensures) (asks _ _ _ _ _ _ _ _ turning c.in-Asks.target c.in-Asks.host c.in-Asks.ensures.turn (c.in-Asks.ensures.leads _ _ (fits_here _ _ _ _ _ _ _ _ turning c.nodes-nodes.ensures.well_formed))).0; same = c.run.invariant.same }
+    record { come = subst (λ (l : List Item). Comes c.args.graph.now c.args.bytes.now l c.in-Asks.target c.run.at (set c.run.seen.items c.run.node (c.run.at + 1))) (sym c.in_ok-push_call-in-Asks.ensures) (asks _ _ _ _ _ _ _ _ turning c.in-Asks.target c.in-Asks.host c.in-Asks.ensures.turn (c.in-Asks.ensures.leads _ (fits_here _ _ _ _ _ _ _ _ turning c.nodes-nodes.ensures.well_formed))).0; same = c.run.invariant.same }
 
 pub returns-in-Waits-clause-run : goal.returns-in-Waits-clause-run
 returns-in-Waits-clause-run c =
@@ -53,3 +53,8 @@ pub returns-in-Breaks-clause-no_loop : goal.returns-in-Breaks-clause-no_loop
 returns-in-Breaks-clause-no_loop c node byte back =
     let turning = turning_from _ _ _ _ _ _ _ c.index-nodes-node.result _ _ c.run.invariant.come c.run.invariant.same c.index.ensures c.if-index-at.false c.byte_at-next.ensures in
     either_run_or_loop _ _ (record { items = c.of-in-Breaks.result; end = Failed c.run.node c.in-Breaks.code; at = c.run.at }) node byte (breaks_there _ _ _ _ _ _ _ _ turning _ c.in-Breaks.code c.in-Breaks.ensures.turn c.of-in-Breaks.ensures (refl, refl) refl) back
+
+pub step_of-requires : goal.step_of-requires
+step_of-requires c =
+    let turning = turning_from _ _ _ _ _ _ _ c.index-nodes-node.result _ _ c.run.invariant.come c.run.invariant.same c.index.ensures c.if-index-at.false c.byte_at-next.ensures in
+    c.requires.1 c.run.node _ turning.node_is

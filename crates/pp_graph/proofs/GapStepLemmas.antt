@@ -1,0 +1,128 @@
+-- The walk over the nodes of a graph, and the first call at which there is a prefix gap.
+use Rattle.std.proofs.Common.{◌≡◌, ℕ, ◌+◌, ◌<◌, ◌≤◌, inl, inr, zero, suc, List, [], ◌∷◌, ◌++◌, Bool, true, false, ◌==◌, ◌&&◌, Option, Some, get_or, take, drop, length, refl, ap, sym, ◌∙◌, subst, arith}
+use Rattle.std.specs.Prelude.{IsNone, IfSome}
+use Rattle.std.specs.Prelude.{None as none}
+use Rattle.std.proofs.lemmas.Bool.{false≢true, cases_lt}
+use Rattle.std.proofs.lemmas.Option.{slice_get_past}
+use Rattle.std.proofs.lemmas.List.{take_more, take-append-drop, length-take-le, drop_all}
+use Rattle.std.proofs.Math.Seq.{drop-cons}
+use Rattle.pp_graph.specs.declared.call.BuilderCall.{BuilderCall}
+use Rattle.pp_graph.specs.declared.call.BuilderCall.TheVariants as call
+use Rattle.pp_graph.specs.declared.fault.GraphRule.TheVariants.{PrefixGap}
+use Rattle.pp_graph.specs.Calls.{is_node, own_calls, since_node}
+use Rattle.pp_graph.specs.Rules.{edge_of, keys_of, gaps_with_any, fails_at_call, FailsAt, Keeps}
+use Rattle.pp_graph.specs.Gaps.{IsLeast, lesser, IsGapFrom, FailsBelow, FailsBetween, end_of_node}
+use Rattle.pp_graph.proofs.LeastLemmas.{IsLeast-none, IsLeast-same, IsLeast-lesser}
+use Rattle.pp_graph.proofs.RuleLemmas.{fails_at-within}
+use Rattle.pp_graph.proofs.GapLemmas.{least-node, since-node, own-node, own-call}
+
+node-edge : (c : BuilderCall) → is_node c ≡ true → edge_of c ≡ none
+node-edge (call.Node name what) h = refl
+node-edge (call.Edge when target) h = absurd (false≢true h)
+node-edge c h = refl
+
+-- a call that adds a node leaves no gap
+node-keeps : (calls : List BuilderCall) (i : ℕ) (c : BuilderCall) → i < length calls → c ≡ get_or calls i c → is_node c ≡ true → FailsAt PrefixGap calls i → ⊥
+node-keeps calls i c h e n f =
+    let before = since_node (take i calls) in
+    let at = fails_at-within PrefixGap calls i c h e in
+    false≢true (sym (ap (gaps_with_any (keys_of (before ++ c ∷ own_calls (drop (i + 1) calls))) (keys_of before)) (node-edge c n)) ∙ sym at ∙ f)
+
+drop-here : (calls : List BuilderCall) (i : ℕ) (c : BuilderCall) → i < length calls → c ≡ get_or calls i c → drop i calls ≡ c ∷ drop (i + 1) calls
+drop-here calls i c h e =
+    let s : suc i ≡ i + 1 = omega arith in
+    drop-cons calls i c h ∙ ap (λ x. x ∷ drop (suc i) calls) (sym e) ∙ ap (λ n. c ∷ drop n calls) s
+
+-- a node ends the calls of the one before it
+end-node : (calls : List BuilderCall) (i : ℕ) (c : BuilderCall) → i < length calls → c ≡ get_or calls i c → is_node c ≡ true → end_of_node calls i ≡ i
+end-node calls i c h e n =
+    let size : length (own_calls (drop i calls)) ≡ 0 = ap (λ x. length (own_calls x)) (drop-here calls i c h e) ∙ ap length (own-node c (drop (i + 1) calls) n) in
+    omega arith
+
+-- and another call does not
+end-call : (calls : List BuilderCall) (i : ℕ) (c : BuilderCall) → i < length calls → c ≡ get_or calls i c → is_node c ≡ false → end_of_node calls i ≡ end_of_node calls (i + 1)
+end-call calls i c h e n =
+    let size : length (own_calls (drop i calls)) ≡ suc (length (own_calls (drop (i + 1) calls))) = ap (λ x. length (own_calls x)) (drop-here calls i c h e) ∙ ap length (own-call c (drop (i + 1) calls) n) in
+    omega arith
+
+-- the call at a place
+call-at : (calls : List BuilderCall) (i : ℕ) → i < length calls → (c : BuilderCall) × (c ≡ get_or calls i c)
+call-at [] i h = absurd (omega arith)
+call-at (c ∷ calls) zero h = (c, refl)
+call-at (c ∷ calls) (suc i) h = call-at calls i (omega arith)
+
+-- so the ends go up
+ends-up : (calls : List BuilderCall) (i : ℕ) → i < length calls → end_of_node calls i ≤ end_of_node calls (i + 1)
+ends-up calls i h = by (is_node there.0) refl
+  where
+    there : (c : BuilderCall) × (c ≡ get_or calls i c)
+    there = call-at calls i h
+
+    by : (b : Bool) → is_node there.0 ≡ b → end_of_node calls i ≤ end_of_node calls (i + 1)
+    by true n = let s = end-node calls i there.0 h there.1 n in omega arith
+    by false n = let s = end-call calls i there.0 h there.1 n in omega arith
+
+-- a call that adds no node has none of its own
+pub behind-call : (calls : List BuilderCall) (i : ℕ) (c : BuilderCall) → i < length calls → c ≡ get_or calls i c → is_node c ≡ false → IsLeast (FailsBetween calls (end_of_node calls i) (end_of_node calls (i + 1))) none
+behind-call calls i c h e n =
+    let same = end-call calls i c h e n in
+    IsLeast-none (FailsBetween calls (end_of_node calls i) (end_of_node calls (i + 1))) (λ m (low, (high, f)). absurd (omega arith))
+
+-- the calls that belong to the node that this one adds
+pub behind-node : (calls : List BuilderCall) (i : ℕ) (c : BuilderCall) (found : Option ℕ) → i < length calls → c ≡ get_or calls i c → is_node c ≡ true → IsLeast (IsGapFrom (own_calls (drop (i + 1) calls)) (i + 1)) found → IsLeast (FailsBetween calls (end_of_node calls i) (end_of_node calls (i + 1))) found
+behind-node calls i c found h e n s =
+    let before = take (i + 1) calls in
+    let rest = drop (i + 1) calls in
+    let size : length before ≡ i + 1 = length-take-le (i + 1) calls (omega arith) in
+    let last : before ≡ take i calls ++ c ∷ [] = take_more calls i c h ∙ ap (λ x. take i calls ++ x ∷ []) (sym e) in
+    let anew : since_node before ≡ [] = ap since_node last ∙ since-node (take i calls) c n in
+    let within = least-node before rest found anew (subst (λ k. IsLeast (IsGapFrom (own_calls rest) k) found) (sym size) s) in
+    let whole = subst (λ x. IsLeast (FailsBetween x (length before) (length before + length (own_calls rest))) found) (take-append-drop (i + 1) calls) within in
+    let here : IsLeast (FailsBetween calls (i + 1) (end_of_node calls (i + 1))) found = subst (λ k. IsLeast (FailsBetween calls k (k + length (own_calls rest))) found) size whole in
+    let start = end-node calls i c h e n in
+    IsLeast-same (FailsBetween calls (i + 1) (end_of_node calls (i + 1))) (FailsBetween calls (end_of_node calls i) (end_of_node calls (i + 1))) found (λ m (low, (high, f)). (omega arith, (high, f))) (λ m (low, (high, f)). elim (cases_lt i m) [
+      | inl more ↦ (omega arith, (high, f))
+      | inr less ↦ absurd (let same : m ≡ i = omega arith in node-keeps calls i c h e n (subst (FailsAt PrefixGap calls) same f))
+    ]) here
+
+-- the calls before the first node
+pub below-first : (calls : List BuilderCall) (found : Option ℕ) → IsLeast (IsGapFrom (own_calls calls) 0) found → IsLeast (FailsBelow calls (end_of_node calls 0)) found
+below-first calls found s =
+    IsLeast-same (FailsBetween calls 0 (0 + length (own_calls calls))) (FailsBelow calls (end_of_node calls 0)) found (λ m h. h.1) (λ m h. (omega arith, h)) (least-node [] calls found refl s)
+
+-- and those of one node more
+pub below-more : (calls : List BuilderCall) (i : ℕ) (found here : Option ℕ) → i < length calls → IsLeast (FailsBelow calls (end_of_node calls i)) found → IsLeast (FailsBetween calls (end_of_node calls i) (end_of_node calls (i + 1))) here → IsLeast (FailsBelow calls (end_of_node calls (i + 1))) (lesser found here)
+below-more calls i found here h s t =
+    let up = ends-up calls i h in
+    IsLeast-lesser (FailsBelow calls (end_of_node calls i)) (FailsBetween calls (end_of_node calls i) (end_of_node calls (i + 1))) (FailsBelow calls (end_of_node calls (i + 1))) found here (λ m (low, f). (omega arith, f)) (λ m h. h.1) (λ m (low, f). elim (cases_lt m (end_of_node calls i)) [ inl less ↦ inl (less, f) | inr more ↦ inr (more, (low, f)) ]) s t
+
+and-no : (b : Bool) → (b && false) ≡ false
+and-no true = refl
+and-no false = refl
+
+-- behind the last call there is no gap
+below-length : (calls : List BuilderCall) (m : ℕ) → FailsAt PrefixGap calls m → m < length calls
+below-length calls m f =
+    elim (cases_lt m (length calls)) [
+      | inl low ↦ low
+      | inr past ↦ absurd (false≢true (sym (ap (fails_at_call PrefixGap calls m) (slice_get_past calls m past) ∙ and-no (m == length calls)) ∙ f))
+    ]
+
+-- all the calls
+pub below-last : (calls : List BuilderCall) (i : ℕ) (found : Option ℕ) → i ≡ length calls → IsLeast (FailsBelow calls (end_of_node calls i)) found → IsLeast (FailsAt PrefixGap calls) found
+below-last calls i found e s =
+    let size : length (own_calls (drop i calls)) ≡ 0 = ap (λ x. length (own_calls x)) (drop_all i calls (omega arith)) in
+    IsLeast-same (FailsBelow calls (end_of_node calls i)) (FailsAt PrefixGap calls) found (λ m h. h.1) (λ m f. (let low : m < length calls = below-length calls m f in (omega arith, f))) s
+
+module _ (calls : List BuilderCall) where
+  pub first-none : (found : Option ℕ) → IsLeast (FailsAt PrefixGap calls) found → IsNone found → Keeps calls PrefixGap
+  first-none none s n i f = s.least i f
+  first-none (Some m) s n i f = absurd cc
+
+  pub first-before : (found : Option ℕ) → IsLeast (FailsAt PrefixGap calls) found → IfSome found (λ i. (j : ℕ) → j < i → ¬ (FailsAt PrefixGap calls j))
+  first-before none s = tt
+  first-before (Some i) s = λ j h f. let low : i ≤ j = s.least j f in omega arith
+
+  pub first-within : (found : Option ℕ) → IsLeast (FailsAt PrefixGap calls) found → IfSome found (λ i. i ≤ length calls)
+  first-within none s = tt
+  first-within (Some i) s = let low : i < length calls = below-length calls i s.holds in omega arith

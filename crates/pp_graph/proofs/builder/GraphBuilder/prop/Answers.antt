@@ -1,0 +1,9 @@
+use Rattle.std.proofs.Common.{length, arith, ap}
+use Rattle.pp_graph.specs.Names.{IsName}
+use Rattle.pp_graph.proofs.CallLemmas.{IsRecord-push}
+use Rattle.pp_graph.proofs.builder.GraphBuilder.prop.Goals as goal
+
+pub invariant_of-self-2 : goal.invariant_of-self-2
+invariant_of-self-2 c =
+    let form : IsName c.in_ok-name.name = rw (c.in_ok-name.ensures, c.as_bytes.ensures.value) c.requires.form in
+    rw c.in_ok-push.ensures.items (IsRecord-push _ _ _ _ c.self.invariant form (omega (arith, ap length c.self.view_is)))

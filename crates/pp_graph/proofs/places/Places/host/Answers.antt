@@ -1,0 +1,18 @@
+use Rattle.std.proofs.Common.{◌∙◌, ap}
+use Rattle.pp_graph.specs.declared.call.Sort.TheVariants as sort
+use Rattle.pp_graph.specs.Calls.{names_of}
+use Rattle.pp_graph.specs.Built.{place_of}
+use Rattle.pp_graph.proofs.PlaceLemmas.{hosts-once, names-fit}
+use Rattle.pp_graph.proofs.places.Places.host.Goals as goal
+
+pub host_place-requires : goal.host_place-requires
+host_place-requires c =
+    let calls = c.self.inside.declared.now in
+    names-fit sort.Host calls c.names.result.now.hosts c.self.invariant (ap (λ t. t.hosts) c.names.ensures ∙ hosts-once calls c.self.invariant.once)
+
+pub returns : goal.returns
+returns c =
+    let calls = c.self.inside.declared.now in
+    c.host_place.ensures
+    ∙ ap (λ names. place_of names c.args.name.now) (ap (λ t. t.hosts) c.names.ensures ∙ hosts-once calls c.self.invariant.once)
+    ∙ ap (λ cs. place_of (names_of sort.Host cs) c.args.name.now) c.self.view_is

@@ -1,0 +1,18 @@
+use Rattle.std.proofs.Common.{◌∙◌, ap}
+use Rattle.pp_graph.specs.declared.call.Sort.TheVariants as sort
+use Rattle.pp_graph.specs.Calls.{names_of}
+use Rattle.pp_graph.specs.Built.{place_of}
+use Rattle.pp_graph.proofs.PlaceLemmas.{spans-once, names-fit}
+use Rattle.pp_graph.proofs.places.Places.span.Goals as goal
+
+pub span_place-requires : goal.span_place-requires
+span_place-requires c =
+    let calls = c.self.inside.declared.now in
+    names-fit sort.Span calls c.names.result.now.spans c.self.invariant (ap (λ t. t.spans) c.names.ensures ∙ spans-once calls c.self.invariant.once)
+
+pub returns : goal.returns
+returns c =
+    let calls = c.self.inside.declared.now in
+    c.span_place.ensures
+    ∙ ap (λ names. place_of names c.args.name.now) (ap (λ t. t.spans) c.names.ensures ∙ spans-once calls c.self.invariant.once)
+    ∙ ap (λ cs. place_of (names_of sort.Span cs) c.args.name.now) c.self.view_is

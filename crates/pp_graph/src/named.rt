@@ -1,0 +1,64 @@
+// What calls declare and name.
+ghost use Rattle.std.specs.Prelude.{◌≡◌, List, not};
+ghost use Rattle.std.specs.List.{list_any};
+ghost use Rattle.pp_graph.specs.declared.call.BuilderCall.{BuilderCall};
+ghost use Rattle.pp_graph.specs.Calls.{is_declared as is_declared_of, named_by_kind, named_by_code};
+ghost use Rattle.pp_graph.specs.NameLists.{names_in};
+ghost use Rattle.pp_graph.specs.Rules.{is_duplicate as is_duplicate_of, names_unknown as names_unknown_of};
+
+use crate::call::{BuilderCall, NamedCode, NamedKind};
+use crate::declared::Declared;
+use crate::names::Names;
+
+/// Whether an earlier call declares the same name of the same sort.
+pub(crate) fn is_duplicate(before: &Names, call: &BuilderCall) -> bool
+    ensures { (calls : List BuilderCall) → before.now ≡ names_in calls → result ≡ is_duplicate_of calls call.now }
+{
+    match call {
+        BuilderCall::Prop { name, .. } => before.has_prop(name),
+        BuilderCall::Host { name, .. } => before.has_host(name),
+        BuilderCall::Span { name } => before.has_span(name),
+        BuilderCall::Entry { .. } => before.has_entry(),
+        BuilderCall::Finish { .. } => before.has_finish(),
+        BuilderCall::Node { name, .. } => before.has_node(name),
+        BuilderCall::Edge { .. } => false,
+    }
+}
+
+/// Whether no call at all declares something that a call names.
+pub(crate) fn names_unknown(declared: &Declared<'_>, call: &BuilderCall) -> bool
+    ensures { result ≡ names_unknown_of declared.now call.now }
+{
+    match call {
+        BuilderCall::Prop { .. } | BuilderCall::Host { .. } | BuilderCall::Span { .. } => false,
+        BuilderCall::Entry { node } => !declared.has_node(node),
+        BuilderCall::Finish { prop, host } => {
+            !declared.has_prop(prop) || !declared.has_host(host)
+        }
+        BuilderCall::Node { kind, .. } => kind_names_unknown(declared, kind),
+        BuilderCall::Edge { target, .. } => !declared.has_node(target),
+    }
+}
+
+fn kind_names_unknown(declared: &Declared<'_>, kind: &NamedKind) -> bool
+    ensures { result ≡ list_any (λ named. not (is_declared_of declared.now named)) (named_by_kind kind.now) }
+{
+    match kind {
+        NamedKind::Match { .. } | NamedKind::Pause { .. } | NamedKind::Fail { .. } => false,
+        NamedKind::Invoke { code } => code_names_unknown(declared, code),
+        NamedKind::Consume { prop } => !declared.has_prop(prop),
+        NamedKind::SpanOpen { span } | NamedKind::SpanClose { span } => { !declared.has_span(span) }
+    }
+}
+
+fn code_names_unknown(declared: &Declared<'_>, code: &NamedCode) -> bool
+    ensures { result ≡ not (is_declared_of declared.now (named_by_code code.now)) }
+{
+    match code {
+        NamedCode::Call { host } => !declared.has_host(host),
+        NamedCode::Store { prop }
+        | NamedCode::Load { prop }
+        | NamedCode::Constant { prop, .. }
+        | NamedCode::MulAdd { prop, .. } => !declared.has_prop(prop),
+    }
+}
