@@ -1,0 +1,17 @@
+pub mod Sequence
+pub mod Telling
+pub mod Tokens
+pub mod Keys
+pub mod Statements
+pub mod Text
+pub mod Printed
+pub mod Printable
+pub mod Shapes
+pub mod View
+pub mod Reading
+pub mod Outcome
+pub mod Lexing
+pub mod Places
+pub mod Kinds
+pub mod FirstWord
+pub mod Steps
