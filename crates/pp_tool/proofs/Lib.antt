@@ -1,8 +1,8 @@
 pub mod CaptureLemmas
-pub mod JudgeLemmas
+pub mod CommandLemmas
+pub mod FrontLemmas
+pub mod PieceLemmas
 mod Rows
-pub mod StatementLemmas
-pub mod StatementParts
-pub mod StatementTexts
+pub mod SaysLemmas
 pub mod TextLemmas
 pub mod WordLemmas

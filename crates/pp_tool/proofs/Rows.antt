@@ -2,14 +2,17 @@
 use Rattle.std.proofs.Common.{◌≡◌, List, [], ◌∷◌, None, true, false, refl}
 use Rattle.std.specs.Prelude.{codes}
 use Rattle.std.specs.Fmt.{digits}
+use Rattle.pp_bytes.specs.declared.fold.Fold.TheVariants.{Same}
 use Rattle.pp_graph.specs.declared.call.NamedCode.TheVariants as code
 use Rattle.pp_graph.specs.declared.call.NamedKind.TheVariants as kind
+use Rattle.pp_graph.specs.declared.call.NamedEdge.TheVariants as edge
 use Rattle.pp_graph.specs.declared.call.BuilderCall.{BuilderCall}
 use Rattle.pp_graph.specs.declared.call.BuilderCall.TheVariants as call
+use Rattle.pp_graph.specs.Plan.{Plan}
 use Rattle.pp_graph.specs.Built.{built}
+use Rattle.pp_text.specs.Printed.{printed}
 use Rattle.pp_mean.specs.declared.item.Item.TheVariants.{Call}
 use Rattle.pp_mean.specs.Run.{Waiting, Result}
-use Rattle.pp_tool.specs.GraphText.{text_of}
 use Rattle.pp_tool.specs.Capture.{capture_of, joined}
 use Rattle.pp_tool.specs.Report.{report_of}
 use Rattle.pp_tool.specs.Input.{RunsTo}
@@ -19,14 +22,17 @@ abbrev calls : List BuilderCall
 calls =
     call.Host (codes "hit") false
     ∷ call.Entry (codes "start")
-    ∷ call.Node (codes "start") kind.Match
-    ∷ call.Key (97 ∷ []) None (codes "hit_it")
-    ∷ call.Otherwise true (codes "start")
+    ∷ call.Node (codes "start") (kind.Match Same)
+    ∷ call.Edge (edge.Key (97 ∷ []) None) (codes "hit_it")
+    ∷ call.Edge (edge.Otherwise true) (codes "start")
     ∷ call.Node (codes "hit_it") (kind.Invoke (code.Call (codes "hit")))
-    ∷ call.Otherwise false (codes "start") ∷ []
+    ∷ call.Edge (edge.Otherwise false) (codes "start") ∷ []
 
--- its text
-text : text_of calls ≡ codes "graph 1\nhost hit match\nentry start\nnode start match\non \"a\" -> hit_it\nskip -> start\nnode hit_it call hit\nelse -> start\nend\n"
+abbrev graph : Plan
+graph = built calls
+
+-- its printed text
+text : printed graph ≡ codes "graph 1\nhost hit match\nentry start\nnode start match\non \"a\" -> hit_it\nskip -> start\nnode hit_it call hit\nelse -> start\nend\n"
 text = refl
 
 -- `bab` in one record, and a byte a record
@@ -40,10 +46,10 @@ abbrev result : Result
 result = record { finish = Waiting; last = record { config = record { node = 0; at = 3; carried = 0; values = [] }; rest = []; items = Call 0 0 2 [] 0 ∷ [] } }
 
 -- the graph's run on it
-run : RunsTo calls ((98 ∷ 97 ∷ 98 ∷ []) ∷ []) result
+run : RunsTo graph ((98 ∷ 97 ∷ 98 ∷ []) ∷ []) result
 run = (5, refl)
 
 -- and its report
-report : report_of (built calls) result ≡ codes "0 call hit 0 @2 = 0\n0 wait start @3\n"
+report : report_of graph result ≡ codes "0 call hit 0 @2 = 0\n0 wait start @3\n"
 unfolding digits
 report = refl

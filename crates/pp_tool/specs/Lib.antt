@@ -1,7 +1,5 @@
 pub mod Words
 pub mod Answers
-pub mod GraphText
-pub mod Statements
 pub mod Capture
 pub mod Report
 pub mod Input
@@ -10,6 +8,12 @@ pub use Rattle.pp_graph.specs.Plan
 pub use Rattle.pp_graph.specs.Calls
 pub use Rattle.pp_graph.specs.Built
 pub use Rattle.pp_graph.specs.Rules
+pub use Rattle.pp_text.specs.Tokens
+pub use Rattle.pp_text.specs.Keys
+pub use Rattle.pp_text.specs.Statements
+pub use Rattle.pp_text.specs.Text
+pub use Rattle.pp_text.specs.Outcome
+pub use Rattle.pp_text.specs.Printed
 pub use Rattle.pp_mean.specs.Chain
 pub use Rattle.pp_mean.specs.Run
 pub use Rattle.pp_mean.specs.Nodes

@@ -3,12 +3,13 @@
 
 mod capture;
 mod command;
-mod graph_text;
 mod input;
-mod judge;
+mod print;
+mod refusal;
 mod report;
-mod statement;
 mod status;
+mod text;
+mod trace;
 mod words;
 
 pub use command::tool;

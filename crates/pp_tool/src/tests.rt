@@ -1,4 +1,4 @@
-// The command over fakes in memory.
+// The commands over fakes in memory.
 ghost use Rattle.std.specs.Prelude.{◌≡◌, ◌<◌, ◌≤◌};
 
 use crate::{Status, WordList, tool};
@@ -82,10 +82,10 @@ fn outcome_of(
     run::<Brand>(alloc, words, bytes, outside, Blank::new(1))
 }
 
-// A graph text and a capture.
-fn joined(alloc: Global, text: &str, capture: &[u8]) -> Result<Vec<u8>, AllocError> {
+// A graph text and what stands behind it.
+fn joined(alloc: Global, text: &str, rest: &[u8]) -> Result<Vec<u8>, AllocError> {
     let mut bytes = Vec::from_slice(alloc, text.as_bytes())?;
-    bytes.extend_from_slice(capture)?;
+    bytes.extend_from_slice(rest)?;
     Ok(bytes)
 }
 
@@ -161,7 +161,7 @@ const LATER_WRITE: Outside = Outside {
 
 // Words, the world outside, the status, what was written, and the line that tells it. For wrong words nothing is
 // read: the first read would fail.
-const FAULTS: [(&[&str], Outside, Status, &str, &str); 6] = [
+const FAULTS: [(&[&str], Outside, Status, &str, &str); 8] = [
     (
         &["trace"],
         FIRST_READ,
@@ -170,7 +170,7 @@ const FAULTS: [(&[&str], Outside, Status, &str, &str); 6] = [
         "read fault\n",
     ),
     (
-        &["trace"],
+        &["print"],
         LATER_READ,
         Status::ReadFault,
         "",
@@ -192,6 +192,20 @@ const FAULTS: [(&[&str], Outside, Status, &str, &str); 6] = [
     ),
     (
         &["trace", "--quick"],
+        FIRST_READ,
+        Status::Words,
+        "",
+        "words: no such command\n",
+    ),
+    (
+        &["print", "print"],
+        FIRST_READ,
+        Status::Words,
+        "",
+        "words: no such command\n",
+    ),
+    (
+        &["Print"],
         FIRST_READ,
         Status::Words,
         "",
@@ -221,51 +235,165 @@ fn a_fault_is_told_and_nothing_is_written(rt: HostRuntime) -> Result<(), Fail> {
     Ok(())
 }
 
+// With 40 bytes a read, the graph and the capture come by four reads, and then two find the end: one for the front of
+// the input and one for its rest.
+const PLACES: [&[u64]; 6] = [&[0], &[1], &[2], &[3], &[4], &[5]];
+
 #[test]
-fn an_input_above_the_limit_is_too_long(rt: HostRuntime) -> Result<(), Fail> {
+fn each_read_can_fail(rt: HostRuntime) -> Result<(), Fail> {
     let alloc = rt.alloc();
-    // At the limit the input is judged, and is no graph text; one byte more is too long.
+    let mut bytes = joined(alloc, GRAPH, &BEGIN)?;
+    bytes.extend_from_slice(&[2, 0, 0, 3, b'b', b'a', b'b', 5])?;
+    for read_fails in PLACES {
+        let outside = Outside {
+            read_fails,
+            most: 40,
+            ..SOUND
+        };
+        let got = outcome_of(alloc, &["trace"], bytes.as_slice(), outside)?;
+        assert_eq!(rt; got.status, Status::ReadFault);
+        assert_eq!(rt; got.output.written(), b"".as_slice());
+        assert_eq!(rt; got.errors.written(), b"read fault\n".as_slice());
+    }
+    Ok(())
+}
+
+#[test]
+fn what_stands_behind_the_graph_has_a_limit(rt: HostRuntime) -> Result<(), Fail> {
+    let alloc = rt.alloc();
+    // At the limit it is judged, and is no capture; one byte more is too long.
     for (length, status, line) in [
-        (262_144usize, Status::Graph, "graph: refused\n"),
+        (262_144usize, Status::Capture, "capture: refused\n"),
         (262_145usize, Status::TooLong, "input too long\n"),
     ] {
-        let bytes = vec![in alloc; b'x'; length]?;
+        let rest = vec![in alloc; b'x'; length]?;
+        let bytes = joined(alloc, GRAPH, rest.as_slice())?;
         let got = outcome_of(alloc, &["trace"], bytes.as_slice(), SOUND)?;
         assert_eq!(rt; got.status, status);
         assert_eq!(rt; got.output.written(), b"".as_slice());
         assert_eq!(rt; got.errors.written(), line.as_bytes());
     }
+    // A first line that isn't whole within the most bytes of a text.
+    let bytes = vec![in alloc; b' '; 4_194_305]?;
+    let got = outcome_of(alloc, &["print"], bytes.as_slice(), SOUND)?;
+    assert_eq!(rt; got.status, Status::Graph);
+    assert_eq!(rt; got.errors.written(), b"graph: too long\n".as_slice());
     Ok(())
 }
 
-// Texts that are no graph text of a plain graph.
-const REFUSED_TEXTS: [&str; 26] = [
-    "",
-    "graph 2\nentry s\nnode s match\nelse -> s\nend\n",
-    "entry s\nnode s match\nskip -> s\nend\n",
-    "graph 1\nentry s\nnode s match\nskip -> s\n",
-    "graph 1\nentry s\nnode s match\nskip -> s\nend",
-    "graph 1\nentry s\nnode s match\nskip -> s\nend \n",
-    "graph 1\nentry s\nnode s match\non \"ab\" -> s\nskip -> s\nend\n",
-    "graph 1\nentry s\nnode s match\non \"\"\" -> s\nskip -> s\nend\n",
-    "graph 1\nentry s\nnode s match\non \"\\\" -> s\nskip -> s\nend\n",
-    "graph 1\nentry s\nnode s match\non \"a\"->s\nskip -> s\nend\n",
-    "graph 1\nhost h match\nhost h match\nentry s\nnode s match\nskip -> s\nend\n",
-    "graph 1\nentry s\nentry s\nnode s match\nskip -> s\nend\n",
-    "graph 1\nentry s\nnode s match\nskip -> t\nend\n",
-    "graph 1\nentry s\nnode s call h\nelse -> s\nend\n",
-    "graph 1\nnode s match\nskip -> s\nend\n",
-    "graph 1\nentry s\nnode s match\nend\n",
-    "graph 1\nentry s\nnode s match\non \"a\" -> s\non \"a\" -> s\nskip -> s\nend\n",
-    "graph 1\nentry  s\nnode s match\nskip -> s\nend\n",
-    "graph 1\r\nentry s\r\nnode s match\r\nskip -> s\r\nend\r\n",
-    "graph 1\n\nentry s\nnode s match\nskip -> s\nend\n",
-    "graph 1\n# a comment\nentry s\nnode s match\nskip -> s\nend\n",
-    "graph 1\nentry 1s\nnode 1s match\nskip -> 1s\nend\n",
-    "graph 1\nhost h value\nentry s\nnode s match\nskip -> s\nend\n",
-    "graph 1\nhost h match\nentry s\nnode s call h\nskip -> s\nend\n",
-    "graph 1\nentry s\nnode s match\nskip -> s\nelse -> s\nend\n",
-    "graph 1\nentry s\nnode s error 4294967296 \"x\"\nend\n",
+// Texts that are no graph, or no plain one, and the line that tells why. A capture stands behind them.
+const REFUSED_TEXTS: [(&str, Status, &str); 22] = [
+    (
+        "graph 2\nentry s\nnode s match\nelse -> s\nend\n",
+        Status::Graph,
+        "graph: line 1: syntax\n",
+    ),
+    (
+        "entry s\nnode s match\nskip -> s\nend\n",
+        Status::Graph,
+        "graph: line 1: syntax\n",
+    ),
+    (
+        "graph 1\nentry s\nnode s match\nskip -> s\n",
+        Status::Graph,
+        "graph: line 5: syntax\n",
+    ),
+    (
+        "graph 1\nentry s\nnode s match\nskip -> s\nend",
+        Status::Graph,
+        "graph: line 5: syntax\n",
+    ),
+    (
+        "graph 1\nentry s\nnode s match\non \"\\\" -> s\nskip -> s\nend\n",
+        Status::Graph,
+        "graph: line 4: syntax\n",
+    ),
+    (
+        "graph 1\nentry 1s\nnode 1s match\nskip -> 1s\nend\n",
+        Status::Graph,
+        "graph: line 2: syntax\n",
+    ),
+    (
+        "graph 1\nhost h match\nentry s\nnode s call h\nskip -> s\nend\n",
+        Status::Graph,
+        "graph: line 5: syntax\n",
+    ),
+    (
+        "graph 1\nentry s\nnode s error 4294967296 \"x\"\nend\n",
+        Status::Graph,
+        "graph: line 3: syntax\n",
+    ),
+    (
+        "graph 1\nhost hit match\nhost hit value\nentry start\nnode start match\non \"a\" -> hit_it\nskip -> start\nnode hit_it call hit\nelse -> start\nend\n",
+        Status::Graph,
+        "graph: line 3: duplicate name\n",
+    ),
+    (
+        "graph 1\nentry s\nnode s match\nskip -> t\nend\n",
+        Status::Graph,
+        "graph: line 4: unknown name\n",
+    ),
+    (
+        "graph 1\nnode s match\nskip -> s\nend\n",
+        Status::Graph,
+        "graph: line 4: no entry\n",
+    ),
+    (
+        "graph 1\nentry s\nnode s match\nend\n",
+        Status::Graph,
+        "graph: line 3: no otherwise\n",
+    ),
+    (
+        "graph 1\nentry s\nnode s match\non \"a\" -> s\non \"a\" -> s\nskip -> s\nend\n",
+        Status::Graph,
+        "graph: line 5: key clash\n",
+    ),
+    (
+        "graph 1\nhost hit match\nentry start\nnode start match\non \"a\" -> hit_it\non \"abc\" -> hit_it\nskip -> start\nnode hit_it call hit\nelse -> start\nend\n",
+        Status::Graph,
+        "graph: line 6: prefix gap\n",
+    ),
+    (
+        "graph 1\nhost h value\nentry s\nnode s match\nskip -> t\nnode t call h\nelse -> s\nend\n",
+        Status::Graph,
+        "graph: line 5: value target\n",
+    ),
+    (
+        "graph 1\nprop p u8\nentry s\nnode s update p 256\nelse -> s\nend\n",
+        Status::Graph,
+        "graph: line 4: value too wide\n",
+    ),
+    (
+        "graph 1\nentry s\nnode s match\non \"\" -> s\nskip -> s\nend\n",
+        Status::Graph,
+        "graph: line 4: empty key\n",
+    ),
+    (
+        "graph 1\nentry s\nnode s match lower\non \"A\" -> s\nskip -> s\nend\n",
+        Status::Graph,
+        "graph: line 4: key not folded\n",
+    ),
+    (
+        "graph 1\nspan s\nentry a\nnode a open s\nelse -> b\nnode b match\nskip -> b\nend\n",
+        Status::Check,
+        "check: not yet\n",
+    ),
+    (
+        "graph 1\nentry s\nnode s match\non \"ab\" -> s\nskip -> s\nend\n",
+        Status::Check,
+        "check: not yet\n",
+    ),
+    (
+        "graph 1\nentry s\nnode s match lower\nskip -> s\nend\n",
+        Status::Check,
+        "check: not yet\n",
+    ),
+    // Two nodes that lead to each other without a byte.
+    (
+        "graph 1\nentry x\nnode x match\nelse -> y\nnode y match\nelse -> x\nend\n",
+        Status::Check,
+        "check: loop\n",
+    ),
 ];
 
 // Captures that are none of one connection without sets and script.
@@ -283,33 +411,84 @@ const REFUSED_CAPTURES: [&[u8]; 10] = [
 ];
 
 #[test]
-fn an_input_out_of_form_is_refused(rt: HostRuntime) -> Result<(), Fail> {
+fn a_graph_out_of_order_is_refused(rt: HostRuntime) -> Result<(), Fail> {
     let alloc = rt.alloc();
-    for text in REFUSED_TEXTS {
+    for (text, status, line) in REFUSED_TEXTS {
         let bytes = joined(alloc, text, &[1, 0, 0, 0, 0, 5])?;
         let got = outcome_of(alloc, &["trace"], bytes.as_slice(), SOUND)?;
-        assert_eq!(rt; got.status, Status::Graph, "at {text}");
+        assert_eq!(rt; got.status, status, "at {text}");
         assert_eq!(rt; got.output.written(), b"".as_slice());
-        assert_eq!(rt; got.errors.written(), b"graph: refused\n".as_slice());
+        assert_eq!(rt; got.errors.written(), line.as_bytes(), "at {text}");
     }
-    for capture in REFUSED_CAPTURES {
-        let bytes = joined(alloc, GRAPH, capture)?;
-        let got = outcome_of(alloc, &["trace"], bytes.as_slice(), SOUND)?;
-        assert_eq!(rt; got.status, Status::Capture);
-        assert_eq!(rt; got.output.written(), b"".as_slice());
-        assert_eq!(rt; got.errors.written(), b"capture: refused\n".as_slice());
-    }
-    // Two nodes that lead to each other without a byte; the graph and the capture are judged before.
+    let got = outcome_of(alloc, &["trace"], b"", SOUND)?;
+    assert_eq!(rt; got.status, Status::Graph);
+    assert_eq!(rt; got.errors.written(), b"graph: line 1: syntax\n".as_slice());
+    Ok(())
+}
+
+#[test]
+fn what_is_no_capture_is_refused(rt: HostRuntime) -> Result<(), Fail> {
+    let alloc = rt.alloc();
+    // The capture is judged before the run, which would come to a node twice at one place.
     let looping = "graph 1\nentry x\nnode x match\nelse -> y\nnode y match\nelse -> x\nend\n";
-    for (capture, status, line) in [
-        ([1, 0, 0, 0, 0, 5], Status::Check, "check: loop\n"),
-        ([1, 0, 0, 0, 0, 6], Status::Capture, "capture: refused\n"),
-    ] {
-        let bytes = joined(alloc, looping, &capture)?;
-        let got = outcome_of(alloc, &["trace"], bytes.as_slice(), SOUND)?;
-        assert_eq!(rt; got.status, status);
-        assert_eq!(rt; got.output.written(), b"".as_slice());
-        assert_eq!(rt; got.errors.written(), line.as_bytes());
+    for text in [GRAPH, looping] {
+        for capture in REFUSED_CAPTURES {
+            let bytes = joined(alloc, text, capture)?;
+            let got = outcome_of(alloc, &["trace"], bytes.as_slice(), SOUND)?;
+            assert_eq!(rt; got.status, Status::Capture);
+            assert_eq!(rt; got.output.written(), b"".as_slice());
+            assert_eq!(rt; got.errors.written(), b"capture: refused\n".as_slice());
+        }
+    }
+    Ok(())
+}
+
+// Texts, the status of `print`, what it writes, and the line that it tells.
+const PRINTED: [(&str, Status, &str, &str); 6] = [
+    (GRAPH, Status::Ok, GRAPH, ""),
+    (
+        "graph 1;entry s;node s match;on [ba] -> s;else -> e;node e error 1 \"#;\";end",
+        Status::Ok,
+        "graph 1\nentry s\nnode s match\non \"a\" -> s\non \"b\" -> s\nelse -> e\nnode e error 1 \"#;\"\nend\n",
+        "",
+    ),
+    (
+        "graph 1\r\n\n  span  s # a part\nentry a;node a open s\nelse -> a\nend\n",
+        Status::Ok,
+        "graph 1\nspan s\nentry a\nnode a open s\nelse -> a\nend\n",
+        "",
+    ),
+    (
+        "graph 1;entry s;node s match;on [b-a] -> s;else -> s;end",
+        Status::Graph,
+        "",
+        "graph: line 1: syntax\n",
+    ),
+    (
+        "graph 1\nhost hit match\nentry start\nnode start match\non \"a\" -> hit_it\nskip -> start\nnode hit_it call hit\nelse -> start\nend\nx",
+        Status::Graph,
+        "",
+        "graph: line 10: syntax\n",
+    ),
+    (
+        "graph 1\nentry s;node s match;skip -> s;end\n\n",
+        Status::Graph,
+        "",
+        "graph: line 3: syntax\n",
+    ),
+];
+
+#[test]
+fn a_graph_is_printed_however_its_text_is_cut(rt: HostRuntime) -> Result<(), Fail> {
+    let alloc = rt.alloc();
+    for (text, status, written, line) in PRINTED {
+        for most in [1, 100_000] {
+            let outside = Outside { most, ..SOUND };
+            let got = outcome_of(alloc, &["print"], text.as_bytes(), outside)?;
+            assert_eq!(rt; got.status, status, "at {text}");
+            assert_eq!(rt; got.output.written(), written.as_bytes(), "at {text}");
+            assert_eq!(rt; got.errors.written(), line.as_bytes(), "at {text}");
+        }
     }
     Ok(())
 }

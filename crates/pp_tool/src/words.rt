@@ -1,10 +1,20 @@
 // The words of a command line.
-ghost use Rattle.std.specs.Prelude.{◌≡◌, ◌++◌, ◌∷◌, [], ◌↔◌, IsTrue, OnOk, OnErr};
-ghost use Rattle.pp_tool.specs.Words.{trace_words};
+ghost use Rattle.std.specs.Prelude.{◌≡◌, ◌++◌, ◌∷◌, [], ◌↔◌, IsTrue, MatchOption, OnOk, OnErr};
+ghost use Rattle.pp_tool.specs.Words.{AreCommand};
+ghost use Rattle.pp_tool.specs.Judged.{words_of};
 
 use pp_graph::NoMemory;
 use std::alloc::Global;
 use std::marker::Model;
+
+/// What the words can ask for.
+#[derive(Clone, Copy, Debug, PartialEq, Eq)]
+pub(crate) enum Command {
+    /// The report of a graph's run on a capture.
+    Trace,
+    /// The printed form of a graph text.
+    Print,
+}
 
 /// The words behind the program's name, in order. Contracts see it as the list of its words, each a list of bytes.
 #[derive(Drop)]
@@ -42,12 +52,25 @@ impl WordList {
         Ok(())
     }
 
-    /// Whether the words are `trace` alone.
-    pub(crate) fn are_trace(&self) -> bool
-        ensures { IsTrue result ↔ (self.now ≡ trace_words) }
+    /// The command that the words are.
+    pub(crate) fn command(&self) -> Option<Command>
+        ensures { MatchOption result (¬ (AreCommand self.now)) (λ command. self.now ≡ words_of command) }
+    {
+        if self.are("trace") {
+            Some(Command::Trace)
+        } else if self.are("print") {
+            Some(Command::Print)
+        } else {
+            None
+        }
+    }
+
+    // Whether the words are this one alone.
+    fn are(&self, word: &str) -> bool
+        ensures { IsTrue result ↔ (self.now ≡ word.now ∷ []) }
     {
         match self.words.as_slice() {
-            [word] => word.as_str() == "trace",
+            [only] => only.as_str() == word,
             _ => false,
         }
     }
