@@ -1,3 +1,4 @@
+pub mod ByteLemmas
 pub mod NumberLemmas
 pub mod NumberRows
 pub mod RangesLemmas

@@ -1,6 +1,7 @@
 // Sets of bytes.
-ghost use Rattle.std.specs.Prelude.{◌≡◌, ℕ, ◌+◌, ◌<◌, ◌≤◌, ◌↔◌, true, IfSome, IfNone, IsSome, IsNone};
+ghost use Rattle.std.specs.Prelude.{◌≡◌, ℕ, ◌+◌, ◌<◌, ◌≤◌, ◌↔◌, [], length, true, IfSome, IfNone, IsSome, IsNone, IsTrue};
 ghost use Rattle.std.specs.FinSet as set;
+ghost use Rattle.pp_bytes.specs.Bytes.{bytes_of};
 ghost use Rattle.pp_bytes.specs.Found.{EndsRun, HasRunsBelow};
 ghost use Rattle.pp_bytes.specs.Ranges.{in_ranges};
 ghost use Rattle.pp_bytes.specs.Runs.{begins_run, runs_of};
@@ -47,6 +48,31 @@ impl ByteSet {
         ensures { result ≡ set.contains self.now b }
     {
         self.words[(b / 64) as usize] >> (b % 64) & 1 == 1
+    }
+
+    /// Whether no byte is in the set.
+    pub fn is_empty(&self) -> bool
+        ensures { IsTrue result ↔ (bytes_of self.now ≡ []) }
+    {
+        for b in 0..=u8::MAX {
+            if self.has(b) {
+                return false;
+            }
+        }
+        true
+    }
+
+    /// How many bytes are in the set.
+    pub fn len(&self) -> usize
+        ensures { result ≡ length (bytes_of self.now) }
+    {
+        let mut count = 0;
+        for b in 0..=u8::MAX {
+            if self.has(b) {
+                count += 1;
+            }
+        }
+        count
     }
 
     /// The bytes of the set as ranges, one for each run of neighbouring bytes.

@@ -111,3 +111,17 @@ fn lists_lend_their_items(rt: HostRuntime) -> Result<(), Fail> {
     assert_eq!(rt; list.items(), [3u8, 1, 2].as_slice());
     Ok(())
 }
+
+#[test]
+fn bytes_of_a_set_are_counted(rt: HostRuntime) {
+    assert!(rt; ByteSet::new().is_empty());
+    assert_eq!(rt; ByteSet::new().len(), 0);
+    for b in [0, 64, u8::MAX] {
+        let mut bytes = ByteSet::new();
+        bytes.add(b);
+        bytes.add(b);
+        assert!(rt; !bytes.is_empty(), "{b}");
+        assert_eq!(rt; bytes.len(), 1, "{b}");
+    }
+    assert_eq!(rt; set_of(LETTERS_AND_DIGITS).len(), 62);
+}
