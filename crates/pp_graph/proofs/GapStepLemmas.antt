@@ -1,6 +1,5 @@
 -- The walk over the nodes of a graph, and the first call at which there is a prefix gap.
-use Rattle.std.proofs.Common.{◌≡◌, ℕ, ◌+◌, ◌<◌, ◌≤◌, inl, inr, zero, suc, List, [], ◌∷◌, ◌++◌, Bool, true, false, ◌==◌, ◌&&◌, Option, Some, get_or, take, drop, length, refl, ap, sym, ◌∙◌, subst, arith}
-use Rattle.std.specs.Prelude.{IsNone, IfSome}
+use Rattle.std.proofs.Common.{◌≡◌, ℕ, ◌+◌, ◌<◌, ◌≤◌, inl, inr, suc, List, [], ◌∷◌, ◌++◌, Bool, true, false, ◌==◌, ◌&&◌, Option, get_or, take, drop, length, refl, ap, sym, ◌∙◌, subst, arith}
 use Rattle.std.specs.Prelude.{None as none}
 use Rattle.std.proofs.lemmas.Bool.{false≢true, cases_lt}
 use Rattle.std.proofs.lemmas.Option.{slice_get_past}
@@ -10,11 +9,11 @@ use Rattle.pp_graph.specs.declared.call.BuilderCall.{BuilderCall}
 use Rattle.pp_graph.specs.declared.call.BuilderCall.TheVariants as call
 use Rattle.pp_graph.specs.declared.fault.GraphRule.TheVariants.{PrefixGap}
 use Rattle.pp_graph.specs.Calls.{is_node, own_calls, since_node}
-use Rattle.pp_graph.specs.Rules.{edge_of, keys_of, gaps_with_any, fails_at_call, FailsAt, Keeps}
+use Rattle.pp_graph.specs.Rules.{edge_of, keys_of, gaps_with_any, fails_at_call, FailsAt}
 use Rattle.pp_graph.specs.Gaps.{IsLeast, lesser, IsGapFrom, FailsBelow, FailsBetween, end_of_node}
-use Rattle.pp_graph.proofs.LeastLemmas.{IsLeast-none, IsLeast-same, IsLeast-lesser}
+use Rattle.pp_graph.proofs.LeastLemmas.{IsLeast-same, IsLeast-lesser}
 use Rattle.pp_graph.proofs.RuleLemmas.{fails_at-within}
-use Rattle.pp_graph.proofs.GapLemmas.{least-node, since-node, own-node, own-call}
+use Rattle.pp_graph.proofs.GapLemmas.{least-node, since-node, own-node}
 
 node-edge : (c : BuilderCall) → is_node c ≡ true → edge_of c ≡ none
 node-edge (call.Node name what) h = refl
@@ -34,39 +33,10 @@ drop-here calls i c h e =
     drop-cons calls i c h ∙ ap (λ x. x ∷ drop (suc i) calls) (sym e) ∙ ap (λ n. c ∷ drop n calls) s
 
 -- a node ends the calls of the one before it
-end-node : (calls : List BuilderCall) (i : ℕ) (c : BuilderCall) → i < length calls → c ≡ get_or calls i c → is_node c ≡ true → end_of_node calls i ≡ i
+pub end-node : (calls : List BuilderCall) (i : ℕ) (c : BuilderCall) → i < length calls → c ≡ get_or calls i c → is_node c ≡ true → end_of_node calls i ≡ i
 end-node calls i c h e n =
     let size : length (own_calls (drop i calls)) ≡ 0 = ap (λ x. length (own_calls x)) (drop-here calls i c h e) ∙ ap length (own-node c (drop (i + 1) calls) n) in
     omega arith
-
--- and another call does not
-end-call : (calls : List BuilderCall) (i : ℕ) (c : BuilderCall) → i < length calls → c ≡ get_or calls i c → is_node c ≡ false → end_of_node calls i ≡ end_of_node calls (i + 1)
-end-call calls i c h e n =
-    let size : length (own_calls (drop i calls)) ≡ suc (length (own_calls (drop (i + 1) calls))) = ap (λ x. length (own_calls x)) (drop-here calls i c h e) ∙ ap length (own-call c (drop (i + 1) calls) n) in
-    omega arith
-
--- the call at a place
-call-at : (calls : List BuilderCall) (i : ℕ) → i < length calls → (c : BuilderCall) × (c ≡ get_or calls i c)
-call-at [] i h = absurd (omega arith)
-call-at (c ∷ calls) zero h = (c, refl)
-call-at (c ∷ calls) (suc i) h = call-at calls i (omega arith)
-
--- so the ends go up
-ends-up : (calls : List BuilderCall) (i : ℕ) → i < length calls → end_of_node calls i ≤ end_of_node calls (i + 1)
-ends-up calls i h = by (is_node there.0) refl
-  where
-    there : (c : BuilderCall) × (c ≡ get_or calls i c)
-    there = call-at calls i h
-
-    by : (b : Bool) → is_node there.0 ≡ b → end_of_node calls i ≤ end_of_node calls (i + 1)
-    by true n = let s = end-node calls i there.0 h there.1 n in omega arith
-    by false n = let s = end-call calls i there.0 h there.1 n in omega arith
-
--- a call that adds no node has none of its own
-pub behind-call : (calls : List BuilderCall) (i : ℕ) (c : BuilderCall) → i < length calls → c ≡ get_or calls i c → is_node c ≡ false → IsLeast (FailsBetween calls (end_of_node calls i) (end_of_node calls (i + 1))) none
-behind-call calls i c h e n =
-    let same = end-call calls i c h e n in
-    IsLeast-none (FailsBetween calls (end_of_node calls i) (end_of_node calls (i + 1))) (λ m (low, (high, f)). absurd (omega arith))
 
 -- the calls that belong to the node that this one adds
 pub behind-node : (calls : List BuilderCall) (i : ℕ) (c : BuilderCall) (found : Option ℕ) → i < length calls → c ≡ get_or calls i c → is_node c ≡ true → IsLeast (IsGapFrom (own_calls (drop (i + 1) calls)) (i + 1)) found → IsLeast (FailsBetween calls (end_of_node calls i) (end_of_node calls (i + 1))) found
@@ -91,10 +61,9 @@ below-first calls found s =
     IsLeast-same (FailsBetween calls 0 (0 + length (own_calls calls))) (FailsBelow calls (end_of_node calls 0)) found (λ m h. h.1) (λ m h. (omega arith, h)) (least-node [] calls found refl s)
 
 -- and those of one node more
-pub below-more : (calls : List BuilderCall) (i : ℕ) (found here : Option ℕ) → i < length calls → IsLeast (FailsBelow calls (end_of_node calls i)) found → IsLeast (FailsBetween calls (end_of_node calls i) (end_of_node calls (i + 1))) here → IsLeast (FailsBelow calls (end_of_node calls (i + 1))) (lesser found here)
-below-more calls i found here h s t =
-    let up = ends-up calls i h in
-    IsLeast-lesser (FailsBelow calls (end_of_node calls i)) (FailsBetween calls (end_of_node calls i) (end_of_node calls (i + 1))) (FailsBelow calls (end_of_node calls (i + 1))) found here (λ m (low, f). (omega arith, f)) (λ m h. h.1) (λ m (low, f). elim (cases_lt m (end_of_node calls i)) [ inl less ↦ inl (less, f) | inr more ↦ inr (more, (low, f)) ]) s t
+pub below-more : (calls : List BuilderCall) (i j : ℕ) (found here : Option ℕ) → end_of_node calls i ≤ end_of_node calls j → IsLeast (FailsBelow calls (end_of_node calls i)) found → IsLeast (FailsBetween calls (end_of_node calls i) (end_of_node calls j)) here → IsLeast (FailsBelow calls (end_of_node calls j)) (lesser found here)
+below-more calls i j found here up s t =
+    IsLeast-lesser (FailsBelow calls (end_of_node calls i)) (FailsBetween calls (end_of_node calls i) (end_of_node calls j)) (FailsBelow calls (end_of_node calls j)) found here (λ m (low, f). (omega arith, f)) (λ m h. h.1) (λ m (low, f). elim (cases_lt m (end_of_node calls i)) [ inl less ↦ inl (less, f) | inr more ↦ inr (more, (low, f)) ]) s t
 
 and-no : (b : Bool) → (b && false) ≡ false
 and-no true = refl
@@ -113,16 +82,3 @@ pub below-last : (calls : List BuilderCall) (i : ℕ) (found : Option ℕ) → i
 below-last calls i found e s =
     let size : length (own_calls (drop i calls)) ≡ 0 = ap (λ x. length (own_calls x)) (drop_all i calls (omega arith)) in
     IsLeast-same (FailsBelow calls (end_of_node calls i)) (FailsAt PrefixGap calls) found (λ m h. h.1) (λ m f. (let low : m < length calls = below-length calls m f in (omega arith, f))) s
-
-module _ (calls : List BuilderCall) where
-  pub first-none : (found : Option ℕ) → IsLeast (FailsAt PrefixGap calls) found → IsNone found → Keeps calls PrefixGap
-  first-none none s n i f = s.least i f
-  first-none (Some m) s n i f = absurd cc
-
-  pub first-before : (found : Option ℕ) → IsLeast (FailsAt PrefixGap calls) found → IfSome found (λ i. (j : ℕ) → j < i → ¬ (FailsAt PrefixGap calls j))
-  first-before none s = tt
-  first-before (Some i) s = λ j h f. let low : i ≤ j = s.least j f in omega arith
-
-  pub first-within : (found : Option ℕ) → IsLeast (FailsAt PrefixGap calls) found → IfSome found (λ i. i ≤ length calls)
-  first-within none s = tt
-  first-within (Some i) s = let low : i < length calls = below-length calls i s.holds in omega arith

@@ -17,6 +17,16 @@ pub mod WeightLemmas
 pub mod WellFormedLemmas
 pub mod LeastLemmas
 pub mod KeyLemmas
+pub mod SortedKeyLemmas
 pub mod KeyTableLemmas
+pub mod StandLemmas
 pub mod GapLemmas
 pub mod GapStepLemmas
+pub mod GapSetLemmas
+pub mod SetLemmas
+pub mod LookingBackLemmas
+pub mod AllCallsLemmas
+pub mod SetCallLemmas
+pub mod SpreadLemmas
+pub mod TransferLemmas
+pub mod FirstFaultLemmas

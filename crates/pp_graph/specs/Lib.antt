@@ -13,3 +13,4 @@ pub mod OwnEdges
 pub mod Seen
 pub mod Gaps
 pub mod Lookups
+pub mod Sets

@@ -1,16 +1,16 @@
 -- What calls add up to, for the rules that look back.
-use Rattle.std.specs.Prelude.{◌≡◌, ℕ, ◌+◌, ◌||◌, List, Bool, length, nat_le, nat_lt, sum_by}
+use Rattle.std.specs.Prelude.{◌≡◌, ℕ, ◌+◌, ◌||◌, ◌++◌, List, Bool, false, IsTrue, IsSomeAnd, slice_get, take, length, nat_le, nat_lt, sum_by}
 use Rattle.pp_graph.specs.declared.call.BuilderCall.{BuilderCall}
+use Rattle.pp_graph.specs.declared.fault.GraphRule.{GraphRule}
+use Rattle.pp_graph.specs.declared.fault.GraphRule.TheVariants.{DuplicateName, UnknownName, NoEntry, NoOtherwise, KeyClash, PrefixGap, ValueTarget, ValueTooWide, EmptyKey, KeyNotFolded, TooMany}
 use Rattle.pp_graph.specs.declared.seen.Seen.{Seen}
 use Rattle.pp_graph.specs.Calls.{since_node}
-use Rattle.pp_graph.specs.Rules.{edges_of, keys_of, is_lower, weight_of_call}
-use Rattle.pp_graph.specs.NameLists.{names_in}
+use Rattle.pp_graph.specs.Rules.{edges_of, keys_of, is_lower, weight_of_call, is_clash, is_not_folded, passes_limit}
 use Rattle.pp_graph.specs.OwnEdges.{HasEdges}
 use Rattle.pp_graph.specs.Room.{HasRoom}
 
 -- these calls add up to it
 pub record SumsUp (seen : Seen) (before : List BuilderCall) : Type 0 where
-  pub names : seen.names ≡ names_in before
   pub edges : HasEdges seen.edges (edges_of before)
   pub lower : seen.lower ≡ is_lower before
   pub room : HasRoom seen.room before
@@ -19,3 +19,49 @@ pub record SumsUp (seen : Seen) (before : List BuilderCall) : Type 0 where
 abbrev pub key_passes_limit : List BuilderCall → ℕ → Bool
 key_passes_limit before len =
     nat_lt 64 len || nat_le 2048 (length (keys_of (since_node before))) || nat_lt 20000 (sum_by weight_of_call before + len)
+
+-- the rules that ask of the edges before a call, or count them
+abbrev pub LooksBack : GraphRule → Type 0
+LooksBack DuplicateName = ⊥
+LooksBack UnknownName = ⊥
+LooksBack NoEntry = ⊥
+LooksBack NoOtherwise = ⊥
+LooksBack KeyClash = Unit {0}
+LooksBack PrefixGap = ⊥
+LooksBack ValueTarget = ⊥
+LooksBack ValueTooWide = ⊥
+LooksBack EmptyKey = ⊥
+LooksBack KeyNotFolded = Unit {0}
+LooksBack TooMany = Unit {0}
+
+-- such a rule fails at a call, with those before it
+abbrev pub fails_back : GraphRule → List BuilderCall → BuilderCall → Bool
+fails_back DuplicateName before c = false
+fails_back UnknownName before c = false
+fails_back NoEntry before c = false
+fails_back NoOtherwise before c = false
+fails_back KeyClash before c = is_clash before c
+fails_back PrefixGap before c = false
+fails_back ValueTarget before c = false
+fails_back ValueTooWide before c = false
+fails_back EmptyKey before c = false
+fails_back KeyNotFolded before c = is_not_folded before c
+fails_back TooMany before c = passes_limit before c
+
+-- the rules that ask nothing of the byte of an edge, so that all edges of a set keep or break them together
+abbrev pub IsByName : GraphRule → Type 0
+IsByName DuplicateName = Unit {0}
+IsByName UnknownName = Unit {0}
+IsByName NoEntry = Unit {0}
+IsByName NoOtherwise = Unit {0}
+IsByName KeyClash = ⊥
+IsByName PrefixGap = ⊥
+IsByName ValueTarget = Unit {0}
+IsByName ValueTooWide = Unit {0}
+IsByName EmptyKey = Unit {0}
+IsByName KeyNotFolded = ⊥
+IsByName TooMany = ⊥
+
+-- such a rule fails at the call of this rank among a few, behind those before them
+abbrev pub FailsBehind : GraphRule → List BuilderCall → List BuilderCall → ℕ → Type 0
+FailsBehind rule before few k = IsSomeAnd (slice_get few k) (λ c. IsTrue (fails_back rule (before ++ take k few) c))

@@ -1,19 +1,26 @@
 // The builder: calls in order, and the graph that they give.
-ghost use Rattle.std.specs.Prelude.{◌≡◌, ◌<◌, ◌^◌, ◌++◌, ◌∷◌, [], true, false, length, IfOk, IfErr, OnOk, OnErr, if◌then◌else◌};
+ghost use Rattle.std.specs.Prelude.{◌≡◌, ◌+◌, ◌<◌, ◌^◌, map, ◌++◌, ◌∷◌, [], true, false, length, IfOk, IfErr, OnOk, OnErr, if◌then◌else◌};
 ghost use Rattle.pp_graph.specs.declared.call.BuilderCall.TheVariants as call;
 ghost use Rattle.pp_graph.specs.declared.call.NamedEdge.TheVariants as edge;
 ghost use Rattle.pp_graph.specs.declared.call.NamedCode.TheVariants as code;
+ghost use Rattle.pp_graph.specs.declared.builder.LastNode.TheVariants as last;
 ghost use Rattle.pp_graph.specs.Names.{IsName};
 ghost use Rattle.pp_graph.specs.Calls.{last_node as last_node_of, has_otherwise as has_otherwise_of, last_of as last_node_kind, named_kind, named_code, KindHasForm, CodeHasForm, MayFollow, HaveForm, is_otherwise_edge};
+ghost use Rattle.pp_bytes.specs.Bytes.{bytes_of};
+ghost use Rattle.pp_graph.specs.Sets.{key_calls, peek_calls, byte_call};
 ghost use Rattle.pp_graph.specs.Built.{built};
 ghost use Rattle.pp_graph.specs.Rules.{KeepsRules, IsFault};
 
 use crate::call::{BuilderCall, CodeText, Constant, KindText, NamedCode, NamedEdge, NamedKind};
+use crate::calls::{ByteUse, Calls};
+use crate::declared::Declared;
 use crate::fault::{GraphFault, NoMemory};
 use crate::graph::{Graph, Width};
 use crate::name::{Name, Reason};
+use crate::rules::first_fault;
 use crate::values::Values;
-use pp_bytes::Listed;
+use crate::whole::build;
+use pp_bytes::{ByteSet, Listed};
 use std::alloc::Global;
 use std::marker::Model;
 
@@ -36,7 +43,7 @@ pub enum LastNode {
 #[derive(Drop)]
 pub struct GraphBuilder {
     alloc: Global,
-    calls: Vec<BuilderCall>,
+    calls: Calls,
     last: LastNode,
     closed: bool,
 }
@@ -48,9 +55,9 @@ impl Model for GraphBuilder {
 
     ghost Value = { List BuilderCall };
 
-    ghost view = { λ b. b.calls.items };
+    ghost view = { λ b. b.calls };
 
-    ghost invariant = { λ b. IsRecord b.calls.items b.last b.closed };
+    ghost invariant = { λ b. IsRecord b.calls b.last b.closed };
 }
 
 impl GraphBuilder {
@@ -60,7 +67,7 @@ impl GraphBuilder {
     {
         GraphBuilder {
             alloc,
-            calls: Vec::new(alloc),
+            calls: Calls::new(alloc),
             last: LastNode::None,
             closed: false,
         }
@@ -169,6 +176,48 @@ impl GraphBuilder {
         self.edge(NamedEdge::Peek { byte }, target)
     }
 
+    /// Adds a key edge of one byte for each byte of a set, ascending, to the node that was added last, a match: the
+    /// number that the edges carry, and the node that they lead to. This is one `key` for each byte, and takes the
+    /// memory of one. A refused call changes nothing.
+    pub fn keys(
+        &mut self,
+        bytes: ByteSet,
+        number: Option<u32>,
+        target: &str,
+    ) -> Result<(), NoMemory>
+        requires form { IsName target.now }
+        requires follows { last_node_of self.old ≡ last.Match }
+        requires room { length self.old + length (bytes_of bytes) < 4294967296 }
+        ensures added { OnOk result (self.new ≡ self.old ++ key_calls bytes number target.now) }
+        ensures unchanged { OnErr result (self.new ≡ self.old) }
+    {
+        self.set(ByteUse::Key { number }, bytes, target)
+    }
+
+    /// Adds a peek edge for each byte of a set, ascending, to the node that was added last, a match. This is one `peek`
+    /// for each byte, and takes the memory of one. A refused call changes nothing.
+    pub fn peeks(&mut self, bytes: ByteSet, target: &str) -> Result<(), NoMemory>
+        requires form { IsName target.now }
+        requires follows { last_node_of self.old ≡ last.Match }
+        requires room { length self.old + length (bytes_of bytes) < 4294967296 }
+        ensures added { OnOk result (self.new ≡ self.old ++ peek_calls bytes target.now) }
+        ensures unchanged { OnErr result (self.new ≡ self.old) }
+    {
+        self.set(ByteUse::Peek, bytes, target)
+    }
+
+    // Adds the edge of each byte of a set to the node that was added last.
+    fn set(&mut self, how: ByteUse, bytes: ByteSet, target: &str) -> Result<(), NoMemory>
+        requires form { IsName target.now }
+        requires room { length self.old + length (bytes_of bytes) < 4294967296 }
+        ensures added { OnOk result (self.new ≡ self.old ++ map (byte_call how target.now) (bytes_of bytes)) }
+        ensures unchanged { OnErr result (self.new ≡ self.old) }
+    {
+        let target = Name::new(self.alloc, target.as_bytes())?;
+        self.calls.push_set(self.alloc, how, bytes, target)?;
+        Ok(())
+    }
+
     /// Adds an answer edge to the node that was added last, an invoke. A refused call changes nothing.
     pub fn answer(&mut self, number: u32, target: &str) -> Result<(), NoMemory>
         requires form { IsName target.now }
@@ -243,34 +292,38 @@ impl GraphBuilder {
             last: _,
             closed: _,
         } = self;
-        graph_of(alloc, &calls)
+        graph_of(alloc, calls)
     }
 }
 
 // The graph of these calls, where every rule holds; else the first fault.
-fn graph_of(alloc: Global, calls: &[BuilderCall]) -> Result<Graph, GraphFault>
-    requires forms { HaveForm calls.now }
-    requires small { length calls.now < 2 ^ 32 }
-    ensures ok { IfOk result (λ graph. KeepsRules calls.now × (graph ≡ built calls.now)) }
-    ensures broken { IfErr result (IsFault calls.now) }
+fn graph_of(alloc: Global, calls: Calls) -> Result<Graph, GraphFault>
+    requires forms { HaveForm calls }
+    requires small { length calls < 2 ^ 32 }
+    ensures ok { IfOk result (λ graph. KeepsRules calls × (graph ≡ built calls)) }
+    ensures broken { IfErr result (IsFault calls) }
 {
-    let values = Values::of(alloc, calls)?;
-    checked_graph(alloc, &values)
+    check_rules(alloc, &calls)?;
+    let all = calls.into_all(alloc)?;
+    let declared = Declared::of(alloc, &all)?;
+    Ok(build(alloc, &declared)?)
 }
 
-fn checked_graph(alloc: Global, values: &Values<'_>) -> Result<Graph, GraphFault>
-    requires forms { HaveForm values.now }
-    requires small { length values.now < 2 ^ 32 }
-    ensures ok { IfOk result (λ graph. KeepsRules values.now × (graph ≡ built values.now)) }
-    ensures broken { IfErr result (IsFault values.now) }
+// Whether every rule holds; else the first fault.
+fn check_rules(alloc: Global, calls: &Calls) -> Result<(), GraphFault>
+    requires { length calls.now < 2 ^ 32 }
+    ensures ok { OnOk result (KeepsRules calls.now) }
+    ensures broken { IfErr result (IsFault calls.now) }
 {
-    if let Some((rule, call)) = crate::rules::first_fault(alloc, values)? {
-        return Err(GraphFault::Broken {
+    let (kept, sets) = calls.parts();
+    let values = Values::of(alloc, kept)?;
+    match first_fault(alloc, &values, sets)? {
+        None => Ok(()),
+        Some((rule, call)) => Err(GraphFault::Broken {
             rule,
             call: call as u32,
-        });
+        }),
     }
-    Ok(crate::whole::build(alloc, values.declared())?)
 }
 
 // Whether a node has an otherwise with this edge, if it had one before or had none.

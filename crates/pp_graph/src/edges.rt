@@ -90,7 +90,8 @@ fn has_upper_byte(bytes: &[u8]) -> bool
     bytes.iter().any(|b| is_upper_case(*b))
 }
 
-fn is_upper_case(b: u8) -> bool
+/// Whether a byte is from A to Z.
+pub(crate) fn is_upper_case(b: u8) -> bool
     ensures { result ≡ is_upper_case_of b }
 {
     b'A' <= b && b <= b'Z'

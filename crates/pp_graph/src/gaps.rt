@@ -1,51 +1,56 @@
 // The first prefix gap of all calls: the nodes one by one, each by a table of its keys.
-ghost use Rattle.std.specs.Prelude.{◌≡◌, ℕ, ◌+◌, ◌^◌, ◌<◌, ◌≤◌, length, option_map, IsNone, IfOk, IfSome};
-ghost use Rattle.pp_graph.specs.Rules.{Keeps, FailsAt};
-ghost use Rattle.pp_graph.specs.Gaps.{IsLeast, IsGapAt, IsGapFrom, FailsBetween, end_of_node};
+ghost use Rattle.std.specs.Prelude.{◌≡◌, ◌+◌, ◌^◌, ◌<◌, length, option_map, IfOk, IfSome};
+ghost use Rattle.pp_graph.specs.Calls.{own_calls as own_calls_of};
+ghost use Rattle.pp_graph.specs.Rules.{FailsAt};
+ghost use Rattle.pp_graph.specs.Sets.{all_calls, AreSets};
+ghost use Rattle.pp_graph.specs.Gaps.{IsLeast, IsGapFrom};
 
 use crate::call::BuilderCall;
+use crate::calls::size_of;
 use crate::edges::{is_node, own_calls};
 use crate::fault::GraphRule;
 use crate::keys::{KeyTable, lesser};
+use pp_bytes::ByteSet;
 use std::alloc::{AllocError, Global};
 
-/// The first call at which a key leaves a gap with an earlier key of the same node.
-pub(crate) fn first_gap(alloc: Global, calls: &[BuilderCall]) -> Result<Option<usize>, AllocError>
-    ensures none { IfOk result (λ found. IsNone found → Keeps calls.now GraphRule.PrefixGap) }
-    ensures fails { IfOk result (λ found. IfSome found (λ i. FailsAt GraphRule.PrefixGap calls.now i)) }
-    ensures none_before { IfOk result (λ found. IfSome found (λ i. (j : ℕ) → j < i → ¬ (FailsAt GraphRule.PrefixGap calls.now j))) }
-    ensures within { IfOk result (λ found. IfSome found (λ i. i ≤ length calls.now)) }
+/// The first call at which a key leaves a gap with an earlier key of the same node, of all the calls that the kept ones
+/// stand for, with the set of each.
+pub(crate) fn first_gap(
+    alloc: Global,
+    calls: &[BuilderCall],
+    sets: &[Option<ByteSet>],
+) -> Result<Option<usize>, AllocError>
+    requires sets { AreSets calls.now sets.now }
+    requires small { length (all_calls calls.now sets.now) < 2 ^ 32 }
+    ensures { IfOk result (IsLeast (FailsAt GraphRule.PrefixGap (all_calls calls.now sets.now))) }
 {
-    let mut found = first_of_node(alloc, own_calls(calls), 0)?;
+    let mut found = first_of_node(alloc, calls, sets, 0)?;
+    let mut number = 0;
     for i in 0..calls.len() {
-        found = lesser(found, first_behind(alloc, calls, i)?);
+        number += size_of(&sets[i]);
+        if is_node(&calls[i]) {
+            let behind = first_of_node(alloc, &calls[i + 1..], &sets[i + 1..], number)?;
+            found = lesser(found, behind);
+        }
     }
     Ok(found)
 }
 
-// The same among the calls that belong to the node which the call at place `i` adds; none where it adds no node.
-fn first_behind(alloc: Global, calls: &[BuilderCall], i: usize) -> Result<Option<usize>, AllocError>
-    requires { i < length calls.now }
-    ensures { IfOk result (IsLeast (FailsBetween calls.now (end_of_node calls.now i) (end_of_node calls.now (i + 1)))) }
-{
-    if is_node(&calls[i]) {
-        first_of_node(alloc, own_calls(&calls[i + 1..]), i + 1)
-    } else {
-        Ok(None)
-    }
-}
-
-// The first place at which the later of two keys of a node that leave a gap stands; the first of its calls stands at `start`.
+// The first number at which the later of two keys that leave a gap stands, among the calls up to the next node, of which
+// the first has this number.
 fn first_of_node(
     alloc: Global,
-    own: &[BuilderCall],
-    start: usize,
+    calls: &[BuilderCall],
+    sets: &[Option<ByteSet>],
+    number: usize,
 ) -> Result<Option<usize>, AllocError>
-    requires { start + length own.now < 2 ^ 64 }
-    ensures { IfOk result (IsLeast (IsGapFrom own.now start)) }
+    requires sets { AreSets calls.now sets.now }
+    requires small { number + length (all_calls calls.now sets.now) < 2 ^ 64 }
+    ensures { IfOk result (IsLeast (IsGapFrom (own_calls_of (all_calls calls.now sets.now)) number)) }
 {
-    let table = KeyTable::of(alloc, own)?;
-    Ok(from_start(table.first_gap(), start))
+    let own = own_calls(calls);
+    let table = KeyTable::of(alloc, own, &sets[..own.len()])?;
+    Ok(from_start(table.first_gap(), number))
 }
 
 // A place that counts from this start, if it is there, as one that counts from the first call.

@@ -1,5 +1,5 @@
 // The keys of one node, borrowed from the calls and kept so that an equal one is found without going over them.
-ghost use Rattle.std.specs.Prelude.{◌≡◌, ℕ, List, [], ◌∷◌, ◌++◌, ◌||◌, length, nat_le, OnOk};
+ghost use Rattle.std.specs.Prelude.{◌≡◌, ◌≢◌, ℕ, List, [], ◌∷◌, ◌++◌, ◌||◌, length, nat_le, OnOk};
 ghost use Rattle.std.specs.FinSet as set;
 ghost use Rattle.std.specs.List.{list_any};
 ghost use Rattle.pp_graph.specs.Keys.{is_key};
@@ -10,10 +10,11 @@ use indexmap::IndexSet;
 use pp_bytes::ByteSet;
 use std::alloc::{AllocError, Global};
 
-/// The keys of one node, the bytes that they begin with, and how many more fit.
+/// The keys of one node, those of one byte apart, the bytes that they begin with, and how many more fit.
 #[derive(Drop)]
 pub(crate) struct KeySet<'c> {
     whole: IndexSet<&'c [u8]>,
+    bytes: ByteSet,
     first_bytes: ByteSet,
     more: usize,
 }
@@ -25,6 +26,7 @@ impl<'c> KeySet<'c> {
     {
         KeySet {
             whole: IndexSet::new(alloc),
+            bytes: ByteSet::new(),
             first_bytes: ByteSet::new(),
             more: 2048,
         }
@@ -34,17 +36,48 @@ impl<'c> KeySet<'c> {
     pub(crate) fn add(&mut self, key: &'c [u8]) -> Result<(), AllocError>
         ensures { OnOk result ((keys : List (List ℕ)) → HasKeys self.old keys → HasKeys self.new (keys ++ key.now ∷ [])) }
     {
+        match key {
+            [byte] => self.add_byte(*byte),
+            _ => self.add_whole(key)?,
+        }
+        Ok(())
+    }
+
+    // Adds a key whose length isn't 1, which may be there already.
+    fn add_whole(&mut self, key: &'c [u8]) -> Result<(), AllocError>
+        requires { length key.now ≢ 1 }
+        ensures { OnOk result ((keys : List (List ℕ)) → HasKeys self.old keys → HasKeys self.new (keys ++ key.now ∷ [])) }
+    {
         self.whole.insert(key)?;
         add_first(&mut self.first_bytes, key);
         self.more = self.more.saturating_sub(1);
         Ok(())
     }
 
+    /// Adds a key of one byte, which may be there already.
+    pub(crate) fn add_byte(&mut self, byte: u8)
+        ensures { (keys : List (List ℕ)) → HasKeys self.old keys → HasKeys self.new (keys ++ (byte ∷ []) ∷ []) }
+    {
+        self.bytes.add(byte);
+        self.first_bytes.add(byte);
+        self.more = self.more.saturating_sub(1);
+    }
+
     /// Whether one of the keys is this one.
     pub(crate) fn has(&self, key: &[u8]) -> bool
         ensures { (keys : List (List ℕ)) → HasKeys self.now keys → result ≡ is_key keys key.now }
     {
-        self.whole.contains(key)
+        match key {
+            [byte] => self.has_byte(*byte),
+            _ => self.whole.contains(key),
+        }
+    }
+
+    /// Whether one of the keys is this byte alone.
+    pub(crate) fn has_byte(&self, byte: u8) -> bool
+        ensures { (keys : List (List ℕ)) → HasKeys self.now keys → result ≡ is_key keys (byte ∷ []) }
+    {
+        self.bytes.has(byte)
     }
 
     /// Whether one of the keys begins with a byte.

@@ -3,6 +3,7 @@
 
 mod builder;
 mod call;
+mod calls;
 mod declared;
 mod edges;
 mod fault;
@@ -10,6 +11,7 @@ mod gaps;
 mod graph;
 mod key_set;
 mod keys;
+mod looking_back;
 mod name;
 mod named;
 mod names;

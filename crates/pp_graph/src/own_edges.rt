@@ -4,8 +4,10 @@ ghost use Rattle.std.specs.List.{list_any};
 ghost use Rattle.pp_graph.specs.declared.call.NamedEdge.{NamedEdge as Edge};
 ghost use Rattle.pp_graph.specs.OwnEdges.{HasEdges, begins_in as begins_in_of, key_clash};
 ghost use Rattle.pp_graph.specs.Rules.{edges_clash};
+ghost use Rattle.pp_graph.specs.Sets.{byte_edge};
 
 use crate::call::NamedEdge;
+use crate::calls::ByteUse;
 use crate::key_set::KeySet;
 use indexmap::IndexSet;
 use pp_bytes::ByteSet;
@@ -44,6 +46,26 @@ impl<'c> OwnEdges<'c> {
             NamedEdge::Otherwise { .. } => {}
         }
         Ok(())
+    }
+
+    /// Adds the edge of a byte.
+    pub(crate) fn add_byte(&mut self, how: ByteUse, byte: u8)
+        ensures { (own : List Edge) → HasEdges self.old own → HasEdges self.new (own ++ byte_edge how byte ∷ []) }
+    {
+        match how {
+            ByteUse::Key { .. } => self.keys.add_byte(byte),
+            ByteUse::Peek => self.peeks.add(byte),
+        }
+    }
+
+    /// Whether one of the edges clashes with the edge of a byte.
+    pub(crate) fn clashes_with_byte(&self, how: ByteUse, byte: u8) -> bool
+        ensures { (own : List Edge) → HasEdges self.now own → result ≡ list_any (λ e. edges_clash e (byte_edge how byte)) own }
+    {
+        match how {
+            ByteUse::Key { .. } => self.keys.has_byte(byte) || self.peeks.has(byte),
+            ByteUse::Peek => self.keys.has_begun(byte) || self.peeks.has(byte),
+        }
     }
 
     /// Whether one of the edges clashes with this one.

@@ -1,6 +1,8 @@
 // The limits of a graph, and what the calls so far leave of them.
-ghost use Rattle.std.specs.Prelude.{◌≡◌, List, [], ◌∷◌, ◌++◌};
+ghost use Rattle.std.specs.Prelude.{◌≡◌, ℕ, List, [], ◌∷◌, ◌++◌};
 ghost use Rattle.pp_graph.specs.declared.call.BuilderCall.{BuilderCall as Call};
+ghost use Rattle.pp_graph.specs.declared.calls.ByteUse.{ByteUse};
+ghost use Rattle.pp_graph.specs.Sets.{byte_call};
 ghost use Rattle.pp_graph.specs.Room.{HasRoom};
 ghost use Rattle.pp_graph.specs.Rules.{weight_of_edge};
 
@@ -28,6 +30,16 @@ impl Room {
             spans: 32,
             nodes: 4096,
             weight: 20_001,
+        }
+    }
+
+    /// The room after the edge of one more byte.
+    pub(crate) fn after_byte(self) -> Room
+        ensures { (before : List Call) (how : ByteUse) (target : List ℕ) (b : ℕ) → HasRoom self before → HasRoom result (before ++ byte_call how target b ∷ []) }
+    {
+        Room {
+            weight: self.weight.saturating_sub(1),
+            ..self
         }
     }
 

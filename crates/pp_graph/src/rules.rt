@@ -1,16 +1,22 @@
 // The rules, tried over the calls in order.
-ghost use Rattle.std.specs.Prelude.{◌≡◌, ◌≢◌, ◌<◌, ◌≤◌, ℕ, List, length, false, IsNone, IfSome, IfOk};
+ghost use Rattle.std.specs.Prelude.{◌≡◌, ◌<◌, ◌≤◌, ◌^◌, ℕ, List, length, false, IsNone, IsTrue, IfSome, IfOk};
 ghost use Rattle.pp_graph.specs.declared.call.BuilderCall.{BuilderCall as Call};
-ghost use Rattle.pp_graph.specs.Rules.{KeepsRules, IsFirstFault, Keeps, FailsAt, fails as fails_of, fails_at_end as fails_at_end_of};
-ghost use Rattle.pp_graph.specs.Seen.{SumsUp};
+ghost use Rattle.pp_graph.specs.Rules.{KeepsRules, IsFirstFault, FailsAt, fails as fails_of, fails_at_end as fails_at_end_of};
+ghost use Rattle.pp_graph.specs.NameLists.{names_in};
+ghost use Rattle.pp_graph.specs.Sets.{all_calls, AreSets};
+ghost use Rattle.pp_graph.specs.Gaps.{IsLeast};
+ghost use Rattle.pp_graph.specs.Seen.{IsByName};
 
 use crate::call::BuilderCall;
+use crate::calls::number_of;
 use crate::edges::{is_empty_key, lacks_otherwise};
 use crate::fault::GraphRule;
 use crate::gaps::first_gap;
-use crate::named::names_unknown;
-use crate::seen::Seen;
+use crate::looking_back::first_looking_back;
+use crate::named::{is_duplicate, names_unknown};
+use crate::names::Names;
 use crate::values::{Values, is_too_wide, is_value_fault};
+use pp_bytes::ByteSet;
 use std::alloc::{AllocError, Global};
 
 const RULES: [GraphRule; 11] = [
@@ -27,16 +33,21 @@ const RULES: [GraphRule; 11] = [
     GraphRule::TooMany,
 ];
 
-/// The first rule that fails, and the first call at which it does.
+/// The first rule that fails, and the first call at which it does: of all the calls that the kept ones stand for, with
+/// the set of each.
 pub(crate) fn first_fault(
     alloc: Global,
     values: &Values<'_>,
+    sets: &[Option<ByteSet>],
 ) -> Result<Option<(GraphRule, usize)>, AllocError>
-    ensures none { IfOk result (λ found. IsNone found → KeepsRules values.now) }
-    ensures first { IfOk result (λ found. IfSome found (λ fault. IsFirstFault values.now fault.0 fault.1 × (fault.1 ≤ length values.now))) }
+    requires sets { AreSets values.now sets.now }
+    requires small { length (all_calls values.now sets.now) < 2 ^ 32 }
+    ensures none { IfOk result (λ found. IsNone found → KeepsRules (all_calls values.now sets.now)) }
+    ensures first { IfOk result (λ found. IfSome found (λ fault. IsFirstFault (all_calls values.now sets.now) fault.0 fault.1)) }
+    ensures within { IfOk result (λ found. IfSome found (λ fault. fault.1 ≤ length (all_calls values.now sets.now))) }
 {
     for rule in RULES {
-        if let Some(call) = first_failure(alloc, rule, values)? {
+        if let Some(call) = first_failure(alloc, rule, values, sets)? {
             return Ok(Some((rule, call)));
         }
     }
@@ -48,66 +59,75 @@ fn first_failure(
     alloc: Global,
     rule: GraphRule,
     values: &Values<'_>,
+    sets: &[Option<ByteSet>],
 ) -> Result<Option<usize>, AllocError>
-    ensures none { IfOk result (λ found. IsNone found → Keeps values.now rule) }
-    ensures fails { IfOk result (λ found. IfSome found (λ i. FailsAt rule values.now i)) }
-    ensures none_before { IfOk result (λ found. IfSome found (λ i. (j : ℕ) → j < i → ¬ (FailsAt rule values.now j))) }
-    ensures within { IfOk result (λ found. IfSome found (λ i. i ≤ length values.now)) }
+    requires sets { AreSets values.now sets.now }
+    requires small { length (all_calls values.now sets.now) < 2 ^ 32 }
+    ensures { IfOk result (IsLeast (FailsAt rule (all_calls values.now sets.now))) }
 {
+    let calls = values.declared().calls();
     match rule {
-        GraphRule::PrefixGap => first_gap(alloc, values.declared().calls()),
-        _ => first_by_call(alloc, rule, values),
+        GraphRule::PrefixGap => first_gap(alloc, calls, sets),
+        GraphRule::KeyClash | GraphRule::KeyNotFolded | GraphRule::TooMany => {
+            first_looking_back(alloc, rule, calls, sets)
+        }
+        _ => first_by_name(alloc, rule, values, sets),
     }
 }
 
-// The same of a rule that is tried call by call.
-fn first_by_call(
+// The same of a rule that asks nothing of the byte of an edge: it is tried at the kept calls.
+fn first_by_name(
     alloc: Global,
     rule: GraphRule,
     values: &Values<'_>,
+    sets: &[Option<ByteSet>],
 ) -> Result<Option<usize>, AllocError>
-    requires { rule ≢ GraphRule.PrefixGap }
-    ensures none { IfOk result (λ found. IsNone found → Keeps values.now rule) }
-    ensures fails { IfOk result (λ found. IfSome found (λ i. FailsAt rule values.now i)) }
-    ensures none_before { IfOk result (λ found. IfSome found (λ i. (j : ℕ) → j < i → ¬ (FailsAt rule values.now j))) }
-    ensures within { IfOk result (λ found. IfSome found (λ i. i ≤ length values.now)) }
+    requires rule { IsByName rule }
+    requires sets { AreSets values.now sets.now }
+    requires small { length (all_calls values.now sets.now) < 2 ^ 32 }
+    ensures { IfOk result (IsLeast (FailsAt rule (all_calls values.now sets.now))) }
 {
     match first_failing_call(alloc, rule, values)? {
-        Some(i) => Ok(Some(i)),
-        None => Ok(failure_at_end(rule, values)),
+        Some(place) => Ok(Some(number_of(sets, place))),
+        None => Ok(failure_at_end(rule, values, sets)),
     }
 }
 
-// The first call at which such a rule fails, the end aside.
+// The first kept call at which such a rule fails, the end aside.
 fn first_failing_call(
     alloc: Global,
     rule: GraphRule,
     values: &Values<'_>,
 ) -> Result<Option<usize>, AllocError>
-    requires { rule ≢ GraphRule.PrefixGap }
+    requires { IsByName rule }
     ensures none { IfOk result (λ found. IsNone found → (j : ℕ) → j < length values.now → ¬ (FailsAt rule values.now j)) }
     ensures fails { IfOk result (λ found. IfSome found (λ i. FailsAt rule values.now i)) }
     ensures none_before { IfOk result (λ found. IfSome found (λ i. (j : ℕ) → j < i → ¬ (FailsAt rule values.now j))) }
     ensures within { IfOk result (λ found. IfSome found (λ i. i < length values.now)) }
 {
     let calls = values.declared().calls();
-    let mut seen = Seen::new(alloc);
+    let mut names = Names::new(alloc);
     for i in 0..calls.len() {
-        if fails(rule, values, &seen, &calls[i], &calls[i + 1..]) {
+        if fails(rule, values, &names, &calls[i], &calls[i + 1..]) {
             return Ok(Some(i));
         }
-        seen.add(&calls[i])?;
+        names.add(alloc, &calls[i])?;
     }
     Ok(None)
 }
 
-// The count of calls, if a rule fails behind the last call.
-fn failure_at_end(rule: GraphRule, values: &Values<'_>) -> Option<usize>
+// The count of all calls, if a rule fails behind the last of them.
+fn failure_at_end(rule: GraphRule, values: &Values<'_>, sets: &[Option<ByteSet>]) -> Option<usize>
+    requires sets { AreSets values.now sets.now }
+    requires small { length (all_calls values.now sets.now) < 2 ^ 32 }
     ensures none { IsNone result → fails_at_end_of rule values.now ≡ false }
-    ensures some { IfSome result (λ i. (i ≡ length values.now) × FailsAt rule values.now i) }
+    ensures some { IfSome result (λ i. (i ≡ length (all_calls values.now sets.now)) × IsTrue (fails_at_end_of rule values.now)) }
 {
-    let calls = values.declared().calls();
-    fails_at_end(rule, values).then_some(calls.len())
+    if fails_at_end(rule, values) {
+        Some(number_of(sets, sets.len()))
+    } else {
+        None
+    }
 }
 
 fn fails_at_end(rule: GraphRule, values: &Values<'_>) -> bool
@@ -119,28 +139,28 @@ fn fails_at_end(rule: GraphRule, values: &Values<'_>) -> bool
     }
 }
 
-// Whether a rule that is tried call by call fails at a call, with what all the calls declare, what those before it add
-// up to, and those behind it.
+// Whether such a rule fails at a call, with what all the calls declare, what those before it declare, and those behind it.
 fn fails(
     rule: GraphRule,
     values: &Values<'_>,
-    seen: &Seen<'_>,
+    before: &Names,
     call: &BuilderCall,
     after: &[BuilderCall],
 ) -> bool
-    requires { rule ≢ GraphRule.PrefixGap }
-    ensures { (before : List Call) → SumsUp seen.now before → result ≡ fails_of rule values.now before call.now after.now }
+    requires { IsByName rule }
+    ensures { (calls : List Call) → before.now ≡ names_in calls → result ≡ fails_of rule values.now calls call.now after.now }
 {
     match rule {
-        GraphRule::DuplicateName => seen.is_duplicate(call),
+        GraphRule::DuplicateName => is_duplicate(before, call),
         GraphRule::UnknownName => names_unknown(values.declared(), call),
-        GraphRule::NoEntry | GraphRule::PrefixGap => false,
         GraphRule::NoOtherwise => lacks_otherwise(call, after),
-        GraphRule::KeyClash => seen.is_clash(call),
         GraphRule::ValueTarget => is_value_fault(values, call),
         GraphRule::ValueTooWide => is_too_wide(values, call),
         GraphRule::EmptyKey => is_empty_key(call),
-        GraphRule::KeyNotFolded => seen.is_not_folded(call),
-        GraphRule::TooMany => seen.passes_limit(call),
+        GraphRule::NoEntry
+        | GraphRule::KeyClash
+        | GraphRule::PrefixGap
+        | GraphRule::KeyNotFolded
+        | GraphRule::TooMany => false,
     }
 }

@@ -1,24 +1,24 @@
 // What the calls before the present one add up to.
-ghost use Rattle.std.specs.Prelude.{◌≡◌, List, [], ◌∷◌, ◌++◌, OnOk};
+ghost use Rattle.std.specs.Prelude.{◌≡◌, ℕ, List, [], ◌∷◌, ◌++◌, OnOk};
 ghost use Rattle.pp_graph.specs.declared.call.BuilderCall.{BuilderCall as Call};
-ghost use Rattle.pp_graph.specs.Seen.{SumsUp, key_passes_limit as key_passes_limit_of};
-ghost use Rattle.pp_graph.specs.Rules.{is_duplicate as is_duplicate_of, is_clash as is_clash_of, is_not_folded as is_not_folded_of, passes_limit as passes_limit_of, edge_passes_limit as edge_passes_limit_of, lower_kind};
+ghost use Rattle.pp_graph.specs.Sets.{byte_call};
+ghost use Rattle.pp_graph.specs.Seen.{SumsUp, fails_back, key_passes_limit as key_passes_limit_of};
+ghost use Rattle.pp_graph.specs.Rules.{is_clash as is_clash_of, is_not_folded as is_not_folded_of, passes_limit as passes_limit_of, edge_passes_limit as edge_passes_limit_of, lower_kind};
 
 use crate::call::{BuilderCall, NamedEdge, NamedKind};
-use crate::edges::has_upper_case;
-use crate::named::is_duplicate;
-use crate::names::Names;
+use crate::calls::ByteUse;
+use crate::edges::{has_upper_case, is_upper_case};
+use crate::fault::GraphRule;
 use crate::own_edges::OwnEdges;
 use crate::room::Room;
 use pp_bytes::Fold;
 use std::alloc::{AllocError, Global};
 
-/// What the calls before the present one add up to: the names that they declare, the edges of the node that was added
-/// last, whether it compares in lower case, and the room that is left up to the limits.
+/// What the calls before the present one add up to: the edges of the node that was added last, whether it compares in
+/// lower case, and the room that is left up to the limits.
 #[derive(Drop)]
 pub(crate) struct Seen<'c> {
     alloc: Global,
-    names: Names,
     edges: OwnEdges<'c>,
     lower: bool,
     room: Room,
@@ -31,7 +31,6 @@ impl<'c> Seen<'c> {
     {
         Seen {
             alloc,
-            names: Names::new(alloc),
             edges: OwnEdges::new(alloc),
             lower: false,
             room: Room::new(),
@@ -42,7 +41,6 @@ impl<'c> Seen<'c> {
     pub(crate) fn add(&mut self, call: &'c BuilderCall) -> Result<(), AllocError>
         ensures { OnOk result ((before : List Call) → SumsUp self.old before → SumsUp self.new (before ++ call.now ∷ [])) }
     {
-        self.names.add(self.alloc, call)?;
         self.room = self.room.after(call);
         match call {
             BuilderCall::Node { kind, .. } => {
@@ -55,15 +53,40 @@ impl<'c> Seen<'c> {
         Ok(())
     }
 
-    /// Whether an earlier call declares the same name of the same sort.
-    pub(crate) fn is_duplicate(&self, call: &BuilderCall) -> bool
-        ensures { (before : List Call) → SumsUp self.now before → result ≡ is_duplicate_of before call.now }
+    /// Takes in the edge of one more byte.
+    pub(crate) fn add_byte(&mut self, how: ByteUse, byte: u8)
+        ensures { (before : List Call) (target : List ℕ) → SumsUp self.old before → SumsUp self.new (before ++ byte_call how target byte ∷ []) }
     {
-        is_duplicate(&self.names, call)
+        self.room = self.room.after_byte();
+        self.edges.add_byte(how, byte);
     }
 
-    /// Whether an earlier edge of the same node clashes with the edge of a call.
-    pub(crate) fn is_clash(&self, call: &BuilderCall) -> bool
+    /// Whether such a rule fails at a call.
+    pub(crate) fn fails(&self, rule: GraphRule, call: &BuilderCall) -> bool
+        ensures { (before : List Call) → SumsUp self.now before → result ≡ fails_back rule before call.now }
+    {
+        match rule {
+            GraphRule::KeyClash => self.is_clash(call),
+            GraphRule::KeyNotFolded => self.is_not_folded(call),
+            GraphRule::TooMany => self.passes_limit(call),
+            _ => false,
+        }
+    }
+
+    /// Whether such a rule fails at the edge of a byte.
+    pub(crate) fn fails_at_byte(&self, rule: GraphRule, how: ByteUse, byte: u8) -> bool
+        ensures { (before : List Call) (target : List ℕ) → SumsUp self.now before → result ≡ fails_back rule before (byte_call how target byte) }
+    {
+        match rule {
+            GraphRule::KeyClash => self.edges.clashes_with_byte(how, byte),
+            GraphRule::KeyNotFolded => self.lower && is_upper_case(byte),
+            GraphRule::TooMany => self.byte_passes_limit(how),
+            _ => false,
+        }
+    }
+
+    // Whether an earlier edge of the same node clashes with the edge of a call.
+    fn is_clash(&self, call: &BuilderCall) -> bool
         ensures { (before : List Call) → SumsUp self.now before → result ≡ is_clash_of before call.now }
     {
         match call {
@@ -72,15 +95,15 @@ impl<'c> Seen<'c> {
         }
     }
 
-    /// Whether a call adds a key or a peek byte from A to Z to a node that compares in lower case.
-    pub(crate) fn is_not_folded(&self, call: &BuilderCall) -> bool
+    // Whether a call adds a key or a peek byte from A to Z to a node that compares in lower case.
+    fn is_not_folded(&self, call: &BuilderCall) -> bool
         ensures { (before : List Call) → SumsUp self.now before → result ≡ is_not_folded_of before call.now }
     {
         self.lower && has_upper_case(call)
     }
 
-    /// Whether with this call a count passes its limit.
-    pub(crate) fn passes_limit(&self, call: &BuilderCall) -> bool
+    // Whether with this call a count passes its limit.
+    fn passes_limit(&self, call: &BuilderCall) -> bool
         ensures { (before : List Call) → SumsUp self.now before → result ≡ passes_limit_of before call.now }
     {
         match call {
@@ -100,6 +123,16 @@ impl<'c> Seen<'c> {
             NamedEdge::Key { bytes, .. } => self.key_passes_limit(bytes.items().len()),
             NamedEdge::Peek { .. } | NamedEdge::Answer { .. } => self.room.weight <= 1,
             NamedEdge::Otherwise { .. } => false,
+        }
+    }
+
+    // Whether with the edge of one more byte a count passes its limit.
+    fn byte_passes_limit(&self, how: ByteUse) -> bool
+        ensures { (before : List Call) (target : List ℕ) (b : ℕ) → SumsUp self.now before → result ≡ passes_limit_of before (byte_call how target b) }
+    {
+        match how {
+            ByteUse::Key { .. } => self.key_passes_limit(1),
+            ByteUse::Peek => self.room.weight <= 1,
         }
     }
 

@@ -2,7 +2,7 @@
 ghost use Rattle.std.specs.Prelude.{◌+◌, ◌<◌, ◌≤◌, length, IfOk, OnOk};
 
 use super::*;
-use pp_bytes::{Fold, read_number};
+use pp_bytes::{ByteSet, Fold, read_number};
 use std::alloc::Global;
 use std::process::Abort;
 use std::test::Fail;
@@ -43,7 +43,7 @@ fn declare(
     verb: &str,
     words: &str,
 ) -> Result<(), NoMemory>
-    requires { length builder.old < 100000 }
+    requires { length builder.old < 10000000 }
     ensures { OnOk result (length builder.new ≤ length builder.old + 1) }
 {
     let (name, rest) = word(words);
@@ -62,7 +62,7 @@ fn declare(
 
 // Adds a node. Errors and pauses give the reason `over`.
 fn add_node(rt: &impl Abort, builder: &mut GraphBuilder, words: &str) -> Result<(), NoMemory>
-    requires { length builder.old < 100000 }
+    requires { length builder.old < 10000000 }
     ensures { OnOk result (length builder.new ≤ length builder.old + 1) }
 {
     let (name, rest) = word(words);
@@ -108,7 +108,7 @@ fn add_user(
     used: &str,
     rest: &str,
 ) -> Result<(), NoMemory>
-    requires { length builder.old < 100000 }
+    requires { length builder.old < 10000000 }
     ensures { OnOk result (length builder.new ≤ length builder.old + 1) }
 {
     assert!(rt; is_name(name.as_bytes()));
@@ -167,7 +167,7 @@ fn add_edge(
     verb: &str,
     words: &str,
 ) -> Result<(), NoMemory>
-    requires { length builder.old < 100000 }
+    requires { length builder.old < 10000000 }
     ensures { OnOk result (length builder.new ≤ length builder.old + 1) }
 {
     let (target, rest) = word(words);
@@ -207,13 +207,45 @@ fn add_edge(
     }
 }
 
+// The set of the bytes of a text.
+fn set_of(text: &str) -> ByteSet {
+    let mut bytes = ByteSet::new();
+    for byte in text.as_bytes() {
+        bytes.add(*byte);
+    }
+    bytes
+}
+
+// Adds the edges of a set: their target, then the bytes, then the number that they carry.
+fn add_set(
+    rt: &impl Abort,
+    builder: &mut GraphBuilder,
+    verb: &str,
+    words: &str,
+) -> Result<(), NoMemory>
+    requires { length builder.old < 10000000 }
+    ensures { OnOk result (length builder.new ≤ length builder.old + 256) }
+{
+    let (target, rest) = word(words);
+    let (text, rest) = word(rest);
+    let bytes = set_of(text);
+    assert!(rt; bytes.len() <= 256);
+    assert!(rt; is_name(target.as_bytes()));
+    assert!(rt; matches!(builder.last_node(), LastNode::Match));
+    match verb {
+        "keys" => builder.keys(bytes, carried(rt, rest), target),
+        _ => builder.peeks(bytes, target),
+    }
+}
+
 // Makes the call that a line tells, where its conditions hold.
 fn add(rt: &impl Abort, builder: &mut GraphBuilder, line: &str) -> Result<(), NoMemory>
-    requires { length builder.old < 100000 }
-    ensures { OnOk result (length builder.new ≤ length builder.old + 1) }
+    requires { length builder.old < 10000000 }
+    ensures { OnOk result (length builder.new ≤ length builder.old + 256) }
 {
     let (verb, words) = word(line);
     match verb {
+        "keys" | "peeks" => add_set(rt, builder, verb, words),
         "prop" | "host" | "span" | "entry" | "finish" => declare(rt, builder, verb, words),
         "node" => add_node(rt, builder, words),
         _ => add_edge(rt, builder, verb, words),
@@ -222,7 +254,7 @@ fn add(rt: &impl Abort, builder: &mut GraphBuilder, line: &str) -> Result<(), No
 
 // A builder after at most 100 calls, which `; ` separates.
 fn told(rt: &impl Abort, alloc: Global, script: &str) -> Result<GraphBuilder, NoMemory>
-    ensures { IfOk result (λ builder. length builder ≤ 100) }
+    ensures { IfOk result (λ builder. length builder ≤ 25600) }
 {
     let mut builder = GraphBuilder::new(alloc);
     let mut rest = script;
@@ -246,7 +278,7 @@ fn refusal(rt: &impl Abort, builder: GraphBuilder) -> Option<(GraphRule, u32)> {
 }
 
 // Calls, and the rule that they break with the number of the call: each rule, then its other ways to fail.
-const REFUSED: [(&str, GraphRule, u32); 27] = [
+const REFUSED: [(&str, GraphRule, u32); 34] = [
     (
         "entry a; node a error; node a error",
         GraphRule::DuplicateName,
@@ -370,6 +402,41 @@ const REFUSED: [(&str, GraphRule, u32); 27] = [
         GraphRule::KeyNotFolded,
         2,
     ),
+    (
+        "entry a; node a match; peek a b; keys a cab; else a",
+        GraphRule::KeyClash,
+        4,
+    ),
+    (
+        "entry a; node a match; keys a abc; peeks a xyc; else a",
+        GraphRule::KeyClash,
+        5,
+    ),
+    (
+        "entry a; node a match; keys a abc; keys a d 1; else a",
+        GraphRule::ValueTarget,
+        5,
+    ),
+    (
+        "entry a; node a match; keys a abc; else b",
+        GraphRule::UnknownName,
+        5,
+    ),
+    (
+        "entry a; node a match; peeks a abc; keys a de; else b",
+        GraphRule::UnknownName,
+        7,
+    ),
+    (
+        "entry a; node a match; keys a; peeks a; else b",
+        GraphRule::UnknownName,
+        2,
+    ),
+    (
+        "entry a; node a lower; keys a abC; else a",
+        GraphRule::KeyNotFolded,
+        2,
+    ),
 ];
 
 #[test]
@@ -441,6 +508,38 @@ fn tries_the_rules_in_their_order(rt: HostRuntime) -> Result<(), Fail> {
     Ok(())
 }
 
+// Calls with sets, and the same with a call for each byte.
+const SETS: [(&str, &str); 4] = [
+    (
+        "entry a; node a match; keys a cab; else a",
+        "entry a; node a match; key a a; key a b; key a c; else a",
+    ),
+    (
+        "entry a; node a match; peeks a z_y; keys a ba; skip a; node b match; keys a a; else b",
+        "entry a; node a match; peek a _; peek a y; peek a z; key a a; key a b; skip a; node b match; key a a; else b",
+    ),
+    (
+        "prop p 8; entry a; node a match; keys b 73 9; else a; node b store p; else a",
+        "prop p 8; entry a; node a match; key b 3 9; key b 7 9; else a; node b store p; else a",
+    ),
+    (
+        "entry a; node a match; keys a; peeks a; else a",
+        "entry a; node a match; else a",
+    ),
+];
+
+#[test]
+fn takes_a_set_as_a_call_for_each_byte(rt: HostRuntime) -> Result<(), Fail> {
+    for (sets, singles) in SETS {
+        let one = told(&rt, rt.alloc(), sets)?.close()?;
+        let other = told(&rt, rt.alloc(), singles)?.close()?;
+        let one = format!(in rt.alloc(); "{one:?}")?;
+        let other = format!(in rt.alloc(); "{other:?}")?;
+        assert_eq!(rt; one.as_str(), other.as_str());
+    }
+    Ok(())
+}
+
 // Adds so many things of a sort to a builder.
 fn add_many(
     rt: &impl Abort,
@@ -449,8 +548,8 @@ fn add_many(
     sort: &str,
     count: u32,
 ) -> Result<(), NoMemory>
-    requires { length builder.old ≤ 100 }
-    ensures { OnOk result (length builder.new < 30000) }
+    requires { length builder.old ≤ 25600 }
+    ensures { OnOk result (length builder.new < 10000000) }
 {
     assert!(rt; count <= 20001);
     let mut i = 0;

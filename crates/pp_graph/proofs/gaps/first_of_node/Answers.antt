@@ -1,17 +1,39 @@
-use Rattle.std.proofs.Common.{sym, subst}
+use Rattle.std.proofs.Common.{◌∙◌, ◌+◌, ◌<◌, ◌≤◌, ◌^◌, take, length, sym, ap, subst, arith}
+use Rattle.std.proofs.lemmas.List.{length-take-le}
+use Rattle.pp_graph.specs.Calls.{own_calls}
+use Rattle.pp_graph.specs.Sets.{all_calls, AreSets}
 use Rattle.pp_graph.specs.Gaps.{IsLeast, IsGapAt, IsGapFrom}
 use Rattle.pp_graph.proofs.GapLemmas.{gap-fits, gap-from}
+use Rattle.pp_graph.proofs.GapSetLemmas.{own-all, own-sets, own-few, own-fits}
 use Rattle.pp_graph.proofs.gaps.first_of_node.Goals as goal
+
+pub slice_bounds-of-end : goal.slice_bounds-of-end
+slice_bounds-of-end c =
+    let own = c.own_calls-own.result.now in
+    let few : length own ≤ length c.args.sets.now = subst (λ x. length x ≤ length c.args.sets.now) (sym c.own_calls-own.ensures) (own-fits c.args.calls.now c.args.sets.now c.requires.sets) in
+    sym (length-take-le (length own) c.args.sets.now few)
+
+pub of-requires-clause-sets : goal.of-requires-clause-sets
+of-requires-clause-sets c =
+    subst (λ x. AreSets x (take (length x) c.args.sets.now)) (sym c.own_calls-own.ensures) (own-sets c.args.calls.now c.args.sets.now c.requires.sets)
+
+pub of-requires-clause-small : goal.of-requires-clause-small
+of-requires-clause-small c =
+    let all = all_calls c.args.calls.now c.args.sets.now in
+    let same = ap (λ x. all_calls x (take (length x) c.args.sets.now)) c.own_calls-own.ensures ∙ sym (own-all c.args.calls.now c.args.sets.now c.requires.sets) in
+    omega (arith, ap length same, own-few all)
 
 pub from_start-requires : goal.from_start-requires
 from_start-requires c =
-    let own = c.args.own.now in
-    let least : IsLeast (IsGapAt own) c.first_gap.result = subst (λ x. IsLeast (IsGapAt x) c.first_gap.result) c.in_ok-table.ensures c.first_gap.ensures in
-    gap-fits own c.args.start _ c.first_gap.result c.requires least
+    let all = all_calls c.args.calls.now c.args.sets.now in
+    let same = c.in_ok-table.ensures ∙ ap (λ x. all_calls x (take (length x) c.args.sets.now)) c.own_calls-own.ensures ∙ sym (own-all c.args.calls.now c.args.sets.now c.requires.sets) in
+    let few = own-few all in
+    let small : c.args.number + length (own_calls all) < 2 ^ 64 = omega arith in
+    gap-fits (own_calls all) c.args.number (2 ^ 64) c.first_gap.result small (subst (λ x. IsLeast (IsGapAt x) c.first_gap.result) same c.first_gap.ensures)
 
 pub returns : goal.returns
 returns c =
-    let own = c.args.own.now in
-    let start = c.args.start in
-    let least : IsLeast (IsGapAt own) c.first_gap.result = subst (λ x. IsLeast (IsGapAt x) c.first_gap.result) c.in_ok-table.ensures c.first_gap.ensures in
-    subst (IsLeast (IsGapFrom own start)) (sym c.from_start.ensures) (gap-from own start c.first_gap.result least)
+    let own = own_calls (all_calls c.args.calls.now c.args.sets.now) in
+    let same = c.in_ok-table.ensures ∙ ap (λ x. all_calls x (take (length x) c.args.sets.now)) c.own_calls-own.ensures ∙ sym (own-all c.args.calls.now c.args.sets.now c.requires.sets) in
+    subst (IsLeast (IsGapFrom own c.args.number)) (sym c.from_start.ensures)
+    (gap-from own c.args.number c.first_gap.result (subst (λ x. IsLeast (IsGapAt x) c.first_gap.result) same c.first_gap.ensures))

@@ -1,7 +1,8 @@
 use Rattle.std.proofs.Common.{◌≡◌, ◌+◌, ◌<◌, ◌++◌, ◌∷◌, [], take, length, get_or, false, refl, sym, ap, subst, ◌∙◌, arith}
 use Rattle.std.proofs.lemmas.List.{take_rest, take_more}
+use Rattle.std.proofs.lemmas.List.Sums.{fold_push}
 use Rattle.pp_graph.specs.Rules.{fails_at}
-use Rattle.pp_graph.specs.Seen.{SumsUp}
+use Rattle.pp_graph.specs.NameLists.{names_in, no_names, with_call}
 use Rattle.pp_graph.proofs.RuleLemmas.{fails_at-within, kept-more}
 use Rattle.pp_graph.proofs.rules.first_failing_call.Goals as goal
 
@@ -31,4 +32,5 @@ loop-i-preserved c =
     ∙ (sym (c.fails.ensures (take c.loop-i.i c.args.values.now) c.loop-i.invariant.0 ∙ (rw (take_rest, same) refl)) ∙ c.if-fails.false) in
     let more : take (c.loop-i.i + 1) c.args.values.now ≡ take c.loop-i.i c.args.values.now ++ c.index-calls-i-in-loop-i.result ∷ [] =
     take_more c.args.values.now c.loop-i.i c.index-calls-i-in-loop-i.result inside ∙ ap (λ x. take c.loop-i.i c.args.values.now ++ x ∷ []) (sym added) in
-    (subst (SumsUp c.add.new.self) (sym more) (c.in_ok-add.ensures (take c.loop-i.i c.args.values.now) c.loop-i.invariant.0), kept-more c.args.rule c.args.values.now c.loop-i.i here c.loop-i.invariant.1)
+    let names = c.in_ok-add.ensures ∙ (ap (λ n. with_call n c.index-calls-i-in-loop-i.result) c.loop-i.invariant.0 ∙ (sym (fold_push with_call no_names (take c.loop-i.i c.args.values.now) c.index-calls-i-in-loop-i.result) ∙ ap names_in (sym more))) in
+    (names, kept-more c.args.rule c.args.values.now c.loop-i.i here c.loop-i.invariant.1)

@@ -7,4 +7,4 @@ pub invariant_of-self-2 : goal.invariant_of-self-2
 invariant_of-self-2 c =
     let prop_form : IsName c.in_ok-prop.prop = rw (c.in_ok-prop.ensures, c.as_bytes.ensures.value) c.requires.prop_form in
     let host_form : IsName c.in_ok-host.host = rw (c.in_ok-host.ensures, c.as_bytes-2.ensures.value) c.requires.host_form in
-    rw c.in_ok-push.ensures.items (IsRecord-push _ _ _ _ c.self.invariant (prop_form, host_form) (omega (arith, ap length c.self.view_is)))
+    rw c.in_ok-push.ensures.added (IsRecord-push _ _ _ _ c.self.invariant (prop_form, host_form) (omega (arith, ap length c.self.view_is)))

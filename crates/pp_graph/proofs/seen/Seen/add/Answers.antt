@@ -4,12 +4,12 @@ use Rattle.pp_graph.proofs.seen.Seen.add.Goals as goal
 
 pub returns-in-Node : goal.returns-in-Node
 returns-in-Node c = λ before h.
-    push-node c.args.self.now _ before c.args.call.now c.in-Node.name c.in-Node.kind c.in-Node.is c.in_ok-add.ensures c.new.ensures c.is_lower_kind-self.ensures (c.after-self.ensures before h.room) h
+    push-node c.args.self.now _ before c.args.call.now c.in-Node.name c.in-Node.kind c.in-Node.is c.new.ensures c.is_lower_kind-self.ensures (c.after-self.ensures before h.room) h
 
 pub returns-in_ok-add-in-Edge : goal.returns-in_ok-add-in-Edge
 returns-in_ok-add-in-Edge c = λ before h.
-    push-edge c.args.self.now _ before c.args.call.now c.in-Edge.edge c.in-Edge.target c.in-Edge.is c.in_ok-add.ensures c.in_ok-add-in-Edge.ensures refl (c.after-self.ensures before h.room) h
+    push-edge c.args.self.now _ before c.args.call.now c.in-Edge.edge c.in-Edge.target c.in-Edge.is c.in_ok-add-in-Edge.ensures refl (c.after-self.ensures before h.room) h
 
 pub returns-in_default : goal.returns-in_default
 returns-in_default c = λ before h.
-    push-other c.args.self.now _ before refl refl h c.args.call.now c.in_default.not-Node c.in_default.not-Edge c.in_ok-add.ensures (c.after-self.ensures before h.room)
+    push-other c.args.self.now _ before refl refl h c.args.call.now c.in_default.not-Node c.in_default.not-Edge (c.after-self.ensures before h.room)

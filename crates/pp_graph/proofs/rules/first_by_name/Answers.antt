@@ -1,0 +1,29 @@
+use Rattle.std.proofs.Common.{ℕ, ◌<◌, Some, length, ap, sym, subst, arith}
+use Rattle.std.specs.Prelude.{IfSome, is_some}
+use Rattle.pp_graph.specs.Rules.{FailsAt}
+use Rattle.pp_graph.specs.Sets.{all_calls}
+use Rattle.pp_graph.specs.Gaps.{IsLeast}
+use Rattle.pp_graph.proofs.SetLemmas.{length-sets}
+use Rattle.pp_graph.proofs.FirstFaultLemmas.{sum-within, least-kept, least-end}
+use Rattle.pp_graph.proofs.rules.first_by_name.Goals as goal
+
+pub number_of-requires-clause-within : goal.number_of-requires-clause-within
+number_of-requires-clause-within c =
+    let inside : c.in-Some.place < length c.args.values.now = subst (λ found. IfSome found (λ i. i < length c.args.values.now)) c.in-Some.is c.in_ok-place.ensures.within in
+    omega (arith, length-sets c.args.values.now c.args.sets.now c.requires.sets)
+
+pub number_of-requires-clause-small : goal.number_of-requires-clause-small
+number_of-requires-clause-small c =
+    omega (arith, sum-within c.args.values.now c.args.sets.now c.in-Some.place c.requires.sets, c.requires.small)
+
+pub returns-in-Some : goal.returns-in-Some
+returns-in-Some c =
+    let inside : c.in-Some.place < length c.args.values.now = subst (λ found. IfSome found (λ i. i < length c.args.values.now)) c.in-Some.is c.in_ok-place.ensures.within in
+    let fails : FailsAt c.args.rule c.args.values.now c.in-Some.place = subst (λ found. IfSome found (FailsAt c.args.rule c.args.values.now)) c.in-Some.is c.in_ok-place.ensures.fails in
+    let before : (j : ℕ) → j < c.in-Some.place → ¬ (FailsAt c.args.rule c.args.values.now j) = subst (λ found. IfSome found (λ i. (j : ℕ) → j < i → ¬ (FailsAt c.args.rule c.args.values.now j))) c.in-Some.is c.in_ok-place.ensures.none_before in
+    subst (λ n. IsLeast (FailsAt c.args.rule (all_calls c.args.values.now c.args.sets.now)) (Some n)) (sym c.number_of.ensures)
+    (least-kept c.args.rule c.requires.rule c.args.values.now c.args.sets.now c.requires.sets c.in-Some.place inside fails before)
+
+pub returns-in-None : goal.returns-in-None
+returns-in-None c =
+    least-end c.args.rule c.requires.rule c.args.values.now c.args.sets.now c.requires.sets c.failure_at_end.result (c.in_ok-place.ensures.none (ap is_some c.in-None.is)) c.failure_at_end.ensures.none c.failure_at_end.ensures.some

@@ -1,0 +1,96 @@
+// The rules that look back from a call: at the edges of its node so far, and at the counts.
+ghost use Rattle.std.specs.Prelude.{◌≡◌, ◌<◌, ◌^◌, ◌++◌, ◌∷◌, ℕ, List, [], length, map, IsNone, IfOk};
+ghost use Rattle.pp_bytes.specs.Bytes.{bytes_of};
+ghost use Rattle.pp_graph.specs.declared.call.BuilderCall.{BuilderCall as Call};
+ghost use Rattle.pp_graph.specs.Rules.{FailsAt};
+ghost use Rattle.pp_graph.specs.Sets.{all_calls, byte_call, spread, AreSets, IsSetOf};
+ghost use Rattle.pp_graph.specs.Gaps.{IsLeast};
+ghost use Rattle.pp_graph.specs.Seen.{SumsUp, LooksBack, FailsBehind};
+
+use crate::call::BuilderCall;
+use crate::calls::{ByteUse, number_of, use_of};
+use crate::fault::GraphRule;
+use crate::seen::Seen;
+use pp_bytes::ByteSet;
+use std::alloc::{AllocError, Global};
+
+/// The first call at which such a rule fails, of all the calls that the kept ones stand for, with the set of each.
+pub(crate) fn first_looking_back(
+    alloc: Global,
+    rule: GraphRule,
+    calls: &[BuilderCall],
+    sets: &[Option<ByteSet>],
+) -> Result<Option<usize>, AllocError>
+    requires rule { LooksBack rule }
+    requires sets { AreSets calls.now sets.now }
+    requires small { length (all_calls calls.now sets.now) < 2 ^ 32 }
+    ensures { IfOk result (IsLeast (FailsAt rule (all_calls calls.now sets.now))) }
+{
+    let mut seen = Seen::new(alloc);
+    for i in 0..calls.len() {
+        if let Some(rank) = first_of_kept(rule, &mut seen, &calls[i], &sets[i])? {
+            return Ok(Some(number_of(sets, i) + rank));
+        }
+    }
+    Ok(None)
+}
+
+// The rank of the first call at which such a rule fails, of those that a kept one stands for; where there is none, all
+// of them are taken in.
+fn first_of_kept<'c>(
+    rule: GraphRule,
+    seen: &mut Seen<'c>,
+    call: &'c BuilderCall,
+    set: &Option<ByteSet>,
+) -> Result<Option<usize>, AllocError>
+    requires rule { LooksBack rule }
+    requires set { IsSetOf call.now set.now }
+    ensures fails { IfOk result (λ found. (before : List Call) → SumsUp seen.old before → IsLeast (FailsBehind rule before (spread call.now set.now)) found) }
+    ensures taken { IfOk result (λ found. IsNone found → (before : List Call) → SumsUp seen.old before → SumsUp seen.new (before ++ spread call.now set.now)) }
+{
+    match (set, use_of(call)) {
+        (Some(bytes), Some((how, _))) => Ok(first_of_set(rule, seen, how, bytes)),
+        _ => first_of_one(rule, seen, call),
+    }
+}
+
+// The same of one call.
+fn first_of_one<'c>(
+    rule: GraphRule,
+    seen: &mut Seen<'c>,
+    call: &'c BuilderCall,
+) -> Result<Option<usize>, AllocError>
+    requires rule { LooksBack rule }
+    ensures fails { IfOk result (λ found. (before : List Call) → SumsUp seen.old before → IsLeast (FailsBehind rule before (call.now ∷ [])) found) }
+    ensures taken { IfOk result (λ found. IsNone found → (before : List Call) → SumsUp seen.old before → SumsUp seen.new (before ++ call.now ∷ [])) }
+{
+    if seen.fails(rule, call) {
+        return Ok(Some(0));
+    }
+    seen.add(call)?;
+    Ok(None)
+}
+
+// The same of the edges of a set.
+fn first_of_set(
+    rule: GraphRule,
+    seen: &mut Seen<'_>,
+    how: ByteUse,
+    bytes: &ByteSet,
+) -> Option<usize>
+    requires rule { LooksBack rule }
+    ensures fails { (before : List Call) (target : List ℕ) → SumsUp seen.old before → IsLeast (FailsBehind rule before (map (byte_call how target) (bytes_of bytes.now))) result }
+    ensures taken { IsNone result → (before : List Call) (target : List ℕ) → SumsUp seen.old before → SumsUp seen.new (before ++ map (byte_call how target) (bytes_of bytes.now)) }
+{
+    let mut rank = 0;
+    for byte in 0..=u8::MAX {
+        if bytes.has(byte) {
+            if seen.fails_at_byte(rule, how, byte) {
+                return Some(rank);
+            }
+            seen.add_byte(how, byte);
+            rank += 1;
+        }
+    }
+    None
+}
