@@ -15,6 +15,7 @@ use Rattle.pp_text.specs.Steps.{SameEnds, IsAnswer, FitUse, FitsUse, edge_call, 
 use Rattle.pp_text.specs.Text.{Told, tell, Leads}
 use Rattle.pp_text.specs.Tokens.{Token, Word, Quoted, Bracketed}
 use Rattle.pp_text.specs.View.{tokens_of}
+use Rattle.pp_text.proofs.SetAddLemmas.{fit_bytes, peek_edges}
 
 -- a token that gives keys is no word
 key_token : (token : Token) (keys : List (List ℕ)) → GivesKeys token keys → IsKeyToken token
@@ -95,14 +96,6 @@ singles (key ∷ keys) f =
     let others = singles keys f.1 in
     cc
 
-fit_singles : (bytes : List ℕ) → FitUse key_use.Peek (map (λ b. b ∷ []) bytes)
-fit_singles [] = tt
-fit_singles (byte ∷ bytes) = (refl, fit_singles bytes)
-
-peek_calls : (target bytes : List ℕ) → map (edge_call key_use.Peek target) (map (λ b. b ∷ []) bytes) ≡ map (λ byte. call.Edge (edge.Peek byte) target) bytes
-peek_calls target [] = refl
-peek_calls target (byte ∷ bytes) = ap (λ l. call.Edge (edge.Peek byte) target ∷ l) (peek_calls target bytes)
-
 peeks_from_statement : (line : ℕ) (tokens written : List Token) (target : List ℕ) (a c : Told) →
     ((shape : Shape) → IsShape tokens shape → SomePeeks written target ≡ shape) →
     (s : Statement) → IsStatement tokens s → Follow a.calls (statement_calls s) → c ≡ tell line (statement_calls s) a → AddsTokens line key_use.Peek target written a c
@@ -117,9 +110,9 @@ peeks_from_statement line tokens written target a c only (Peeks bytes other_targ
     let same = only (SomePeeks is.written other_target) (record { some = is.some; spelled = is.spelled; form = is.form }, key_tokens is.written keys is.given) in
     let same_written : is.written ≡ written = cc in
     let same_target : other_target ≡ target = cc in
-    let calls = sym (peek_calls other_target bytes) in
+    let calls = peek_edges other_target bytes in
     let here : AddsTokens line key_use.Peek other_target is.written a c =
-    (keys, is.given, (fit_singles bytes, subst (Follow a.calls) calls follow, told ∙ ap (λ l. tell line l a) calls)) in
+    (keys, is.given, (fit_bytes key_use.Peek bytes, subst (Follow a.calls) calls follow, told ∙ ap (λ l. tell line l a) calls)) in
     subst (λ (t : List ℕ). AddsTokens line key_use.Peek t written a c) same_target
     (subst (λ (w : List Token). AddsTokens line key_use.Peek other_target w a c) same_written here)
 
@@ -130,7 +123,7 @@ peeks_same line tokens written target a is only = record {
       let bytes = map head g.0 in
       let keys : map (λ (b : ℕ). b ∷ []) bytes ≡ g.0 = singles g.0 g.2.0 in
       let calls : map (edge_call key_use.Peek target) g.0 ≡ map (λ byte. call.Edge (edge.Peek byte) target) bytes =
-      ap (map (edge_call key_use.Peek target)) (sym keys) ∙ peek_calls target bytes in (
+      ap (map (edge_call key_use.Peek target)) (sym keys) ∙ sym (peek_edges target bytes) in (
         Peeks bytes target,
         record { written = written; some = is.0.some; spelled = is.0.spelled; given = subst (GiveKeys written) (sym keys) g.1; form = is.0.form },
         subst (Follow a.calls) calls g.2.1,

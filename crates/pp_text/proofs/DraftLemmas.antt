@@ -1,9 +1,6 @@
 -- What keys, tokens and statements add to what was told.
-use Rattle.std.proofs.Common.{◌≡◌, ℕ, suc, ◌+◌, ◌-◌, ◌<◌, ◌≤◌, Bool, true, false, List, [], ◌∷◌, ◌++◌, length, map, drop, get_or, append_assoc, refl, sym, ap, subst, ◌∙◌, arith}
+use Rattle.std.proofs.Common.{◌≡◌, ℕ, ◌+◌, ◌<◌, ◌≤◌, Bool, true, false, List, [], ◌∷◌, ◌++◌, length, map, drop, get_or, append_assoc, refl, sym, ap, subst, ◌∙◌}
 use Rattle.std.proofs.lemmas.List.{append-nil, map-append, drop_more, at_drop_all}
-use Rattle.std.proofs.lemmas.List.Elements.{filter-append}
-use Rattle.std.specs.Prelude.{filter}
-use Rattle.std.specs.List.{range_with_len}
 use Rattle.std.specs.FinSet as set
 use Rattle.std.specs.Ordering.{nat_cmp}
 use Rattle.pp_graph.specs.declared.call.BuilderCall.{BuilderCall}
@@ -13,7 +10,7 @@ use Rattle.pp_text.specs.View.{token_of, tokens_of}
 use Rattle.pp_text.specs.Keys.{SpellsKey, SpellsSet}
 use Rattle.pp_text.specs.Reading.{HasBytes}
 use Rattle.pp_text.specs.Sequence.{Follow}
-use Rattle.pp_text.specs.Steps.{SameEnds, IsAnswer, FitUse, edge_call, AddsKeys, AddsToken, AddsTokens, keys_from, key_in}
+use Rattle.pp_text.specs.Steps.{SameEnds, IsAnswer, FitUse, edge_call, AddsKeys, AddsToken, AddsTokens, keys_of}
 use Rattle.pp_text.specs.Text.{Told, tell}
 use Rattle.pp_text.proofs.SetKeys.{set_keys}
 use Rattle.pp_text.specs.Tokens.{Token, Quoted, Bracketed}
@@ -46,7 +43,7 @@ FitUse-split : (how : KeyUse) (ks ls : List (List ℕ)) → FitUse how (ks ++ ls
 FitUse-split how [] ls f = (tt, f)
 FitUse-split how (k ∷ ks) ls f = let r = FitUse-split how ks ls f.1 in ((f.0, r.0), r.1)
 
-told_is : (c d : List BuilderCall) (l m : List ℕ) → c ≡ d → l ≡ m → (let a : Told = record { calls = c; lines = l } in let b : Told = record { calls = d; lines = m } in a ≡ b)
+pub told_is : (c d : List BuilderCall) (l m : List ℕ) → c ≡ d → l ≡ m → (let a : Told = record { calls = c; lines = l } in let b : Told = record { calls = d; lines = m } in a ≡ b)
 told_is c d l m p q = cc
 
 pub tell-nil : (line : ℕ) (told : Told) → tell line [] told ≡ told
@@ -86,59 +83,12 @@ AddsKeys-split line how target ks ls a c f =
 pub AddsKeys-none : (line : ℕ) (how : KeyUse) (target : List ℕ) (a : Told) → IsAnswer true a (AddsKeys line how target [] a)
 AddsKeys-none line how target a = ((tt, tt, sym (tell-nil line a)), λ other h. sym (h.2 ∙ tell-nil line a))
 
--- keys that were added, and what comes of the others
-pub keys_step : (line : ℕ) (how : KeyUse) (target : List ℕ) (ks ls : List (List ℕ)) (a b : Told) → IsAnswer true b (AddsKeys line how target ks a) →
-    SameEnds (AddsKeys line how target ls b) (AddsKeys line how target (ks ++ ls) a)
-keys_step line how target ks ls a b h = record {
-  to = λ c g. AddsKeys-join line how target ks ls a b c h.0 g;
-  from = λ c g.
-      let s = AddsKeys-split line how target ks ls a c g in
-      subst (λ (t : Told). AddsKeys line how target ls t c) (sym (h.1 s.0 s.1)) s.2;
-}
-
--- keys of which one may not stand there
-pub keys_stop : (line : ℕ) (how : KeyUse) (target : List ℕ) (ks ls : List (List ℕ)) (a b : Told) → IsAnswer false b (AddsKeys line how target ks a) →
-    IsAnswer false b (AddsKeys line how target (ks ++ ls) a)
-keys_stop line how target ks ls a b h = λ c g. let s = AddsKeys-split line how target ks ls a c g in h s.0 s.1
-
--- the bytes of a set, one and then the others
-pub keys_from-step : (from : ℕ) (s : set.FinSet nat_cmp) → from < 256 → keys_from from s ≡ key_in s from ++ keys_from (from + 1) s
-keys_from-step from s below =
-    let left : 256 - from ≡ suc (256 - (from + 1)) = omega arith in
-    let rest = range_with_len (from + 1) (256 - (from + 1)) in
-    ap (λ n. map (λ b. b ∷ []) (filter (set.contains s) (range_with_len from n))) left
-    ∙ ap (map (λ b. b ∷ [])) (filter-append (set.contains s) (from ∷ []) rest)
-    ∙ map-append (λ (b : ℕ). b ∷ []) (filter (set.contains s) (from ∷ [])) (filter (set.contains s) rest)
-
-pub keys_from-end : (from : ℕ) (s : set.FinSet nat_cmp) → 256 ≤ from → keys_from from s ≡ []
-keys_from-end from s above =
-    let left : 256 - from ≡ 0 = omega arith in
-    ap (λ n. map (λ b. b ∷ []) (filter (set.contains s) (range_with_len from n))) left
-
 -- an answer by its test
 pub answer_true : {A : Type 0} (led : Bool) (new : A) (Comes : A → Type 0) → led ≡ true → IsAnswer led new Comes → IsAnswer true new Comes
 answer_true led new Comes e h = subst (λ (b : Bool). IsAnswer b new Comes) e h
 
 pub answer_false : {A : Type 0} (led : Bool) (new : A) (Comes : A → Type 0) → led ≡ false → IsAnswer led new Comes → IsAnswer false new Comes
 answer_false led new Comes e h = subst (λ (b : Bool). IsAnswer b new Comes) e h
-
--- one byte of a set was added
-pub set_step : (line : ℕ) (how : KeyUse) (target : List ℕ) (s : set.FinSet nat_cmp) (from : ℕ) (a b : Told) → from < 256 →
-    IsAnswer true b (AddsKeys line how target (key_in s from) a) → SameEnds (AddsKeys line how target (keys_from (from + 1) s) b) (AddsKeys line how target (keys_from from s) a)
-set_step line how target s from a b below h =
-    subst (λ (ks : List (List ℕ)). SameEnds (AddsKeys line how target (keys_from (from + 1) s) b) (AddsKeys line how target ks a)) (sym (keys_from-step from s below))
-    (keys_step line how target (key_in s from) (keys_from (from + 1) s) a b h)
-
-pub set_stop : (line : ℕ) (how : KeyUse) (target : List ℕ) (s : set.FinSet nat_cmp) (from : ℕ) (a b : Told) → from < 256 →
-    IsAnswer false b (AddsKeys line how target (key_in s from) a) → IsAnswer false b (AddsKeys line how target (keys_from from s) a)
-set_stop line how target s from a b below h =
-    subst (λ (ks : List (List ℕ)). IsAnswer false b (AddsKeys line how target ks a)) (sym (keys_from-step from s below))
-    (keys_stop line how target (key_in s from) (keys_from (from + 1) s) a b h)
-
-pub set_end : (line : ℕ) (how : KeyUse) (target : List ℕ) (s : set.FinSet nat_cmp) (from : ℕ) (a : Told) → 256 ≤ from →
-    IsAnswer true a (AddsKeys line how target (keys_from from s) a)
-set_end line how target s from a above =
-    subst (λ (ks : List (List ℕ)). IsAnswer true a (AddsKeys line how target ks a)) (sym (keys_from-end from s above)) (AddsKeys-none line how target a)
 
 -- a token with a key between quotes
 pub quoted_same : (line : ℕ) (how : KeyUse) (target inside key : List ℕ) (a : Told) → SpellsKey inside key → ((k : List ℕ) → SpellsKey inside k → key ≡ k) →
@@ -156,19 +106,19 @@ quoted_none line how target inside a none = λ c w. none w.1.0 w.1.1
 
 -- a token with a set
 bracketed : (line : ℕ) (how : KeyUse) (target inside bytes : List ℕ) (s : set.FinSet nat_cmp) (a : Told) → SpellsSet inside bytes →
-    HasBytes s bytes → ((other : List ℕ) → SpellsSet inside other → HasBytes s other) → SameEnds (AddsKeys line how target (keys_from 0 s) a) (AddsToken line how target (Bracketed inside) a)
+    HasBytes s bytes → ((other : List ℕ) → SpellsSet inside other → HasBytes s other) → SameEnds (AddsKeys line how target (keys_of s) a) (AddsToken line how target (Bracketed inside) a)
 bracketed line how target inside bytes s a spells has only = record {
-  to = λ c g. (keys_from 0 s, (bytes, spells, sym (set_keys inside bytes s spells has)), g);
+  to = λ c g. (keys_of s, (bytes, spells, sym (set_keys inside bytes s spells has)), g);
   from = λ c w.
-      let same : w.0 ≡ keys_from 0 s = w.1.2 ∙ set_keys inside w.1.0 s w.1.1 (only w.1.0 w.1.1) in
+      let same : w.0 ≡ keys_of s = w.1.2 ∙ set_keys inside w.1.0 s w.1.1 (only w.1.0 w.1.1) in
       subst (λ (ks : List (List ℕ)). AddsKeys line how target ks a c) same w.2;
 }
 
 pub bracketed_same : (line : ℕ) (how : KeyUse) (target inside : List ℕ) (token : Token) (s : set.FinSet nat_cmp) (a : Told) → token ≡ Bracketed inside →
     ((bytes : List ℕ) × SpellsSet inside bytes × HasBytes s bytes) → ((other : List ℕ) → SpellsSet inside other → HasBytes s other) →
-    SameEnds (AddsKeys line how target (keys_from 0 s) a) (AddsToken line how target token a)
+    SameEnds (AddsKeys line how target (keys_of s) a) (AddsToken line how target token a)
 bracketed_same line how target inside token s a is found only =
-    subst (λ (t : Token). SameEnds (AddsKeys line how target (keys_from 0 s) a) (AddsToken line how target t a)) (sym is)
+    subst (λ (t : Token). SameEnds (AddsKeys line how target (keys_of s) a) (AddsToken line how target t a)) (sym is)
     (bracketed line how target inside found.0 s a found.1 found.2 only)
 
 pub bracketed_none : (line : ℕ) (how : KeyUse) (target inside : List ℕ) (token : Token) (a : Told) → token ≡ Bracketed inside → ((bytes : List ℕ) → ¬ (SpellsSet inside bytes)) →

@@ -23,6 +23,8 @@ pub mod KeyTokens
 pub mod WordTexts
 pub mod DraftLemmas
 pub mod SetKeys
+pub mod RunLemmas
+pub mod SetAddLemmas
 pub mod AddLemmas
 pub mod RowSteps
 pub mod LineCuts

@@ -5,9 +5,10 @@ use Rattle.std.specs.Prelude.{filter}
 use Rattle.std.specs.List.{range_with_len, list_any}
 use Rattle.std.specs.FinSet as set
 use Rattle.std.specs.Ordering.{nat_cmp}
+use Rattle.pp_bytes.specs.Bytes.{all_bytes, bytes_of}
 use Rattle.pp_text.specs.Keys.{SpellsSet, item_has}
 use Rattle.pp_text.specs.Reading.{HasBytes}
-use Rattle.pp_text.specs.Steps.{keys_from}
+use Rattle.pp_text.specs.Steps.{keys_of}
 
 any_cond : (b from : ℕ) (q : Bool) (rest : List ℕ) → list_any (λ c. b == c) (cond q (from ∷ rest) rest) ≡ (q && b == from || list_any (λ c. b == c) rest)
 any_cond b from true rest = refl
@@ -48,11 +49,16 @@ same_found p q zero from same = refl
 same_found p q (suc n) from same =
     same_cond (p from) (q from) from _ _ (same from (omega arith)) (same_found p q n (from + 1) (λ b below. same b (omega arith)))
 
+-- the bytes of a set are found in the range of them all
+bytes_are : (s : set.FinSet nat_cmp) → filter (set.contains s) (range_with_len 0 256) ≡ bytes_of s
+unfolding all_bytes
+bytes_are s = refl
+
 -- a set that has the bytes of such items has them as keys
-pub set_keys : (inside bytes : List ℕ) (s : set.FinSet nat_cmp) → SpellsSet inside bytes → HasBytes s bytes → map (λ b. b ∷ []) bytes ≡ keys_from 0 s
+pub set_keys : (inside bytes : List ℕ) (s : set.FinSet nat_cmp) → SpellsSet inside bytes → HasBytes s bytes → map (λ b. b ∷ []) bytes ≡ keys_of s
 set_keys inside bytes s spells has =
     let p = λ (b : ℕ). list_any (item_has b) spells.items in
     let same : bytes ≡ filter (set.contains s) (range_with_len 0 256) =
     spells.are ∙ same_found p (set.contains s) 256 0 (λ b below.
     sym (has b below ∙ ap (list_any (λ c. b == c)) spells.are ∙ found_in p b b 256 0 (omega arith) below)) in
-    ap (map (λ (b : ℕ). b ∷ [])) same
+    ap (map (λ (b : ℕ). b ∷ [])) (same ∙ bytes_are s)

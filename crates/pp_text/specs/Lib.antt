@@ -15,3 +15,4 @@ pub mod Places
 pub mod Kinds
 pub mod FirstWord
 pub mod Steps
+pub mod Lines

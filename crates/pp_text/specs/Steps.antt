@@ -1,8 +1,8 @@
 -- The steps of the reader that add calls and read lines.
-use Rattle.std.specs.Prelude.{◌≡◌, ℕ, ◌+◌, ◌-◌, ◌*◌, ◌≤◌, ◌<◌, ◌⊎◌, List, [], ◌∷◌, ◌++◌, Bool, true, false, Option, Some, length, map, filter, max}
-use Rattle.std.specs.List.{range_with_len}
+use Rattle.std.specs.Prelude.{◌≡◌, ℕ, ◌+◌, ◌*◌, ◌≤◌, ◌<◌, ◌⊎◌, List, [], ◌∷◌, ◌++◌, Bool, true, false, Option, Some, length, map, max}
 use Rattle.std.specs.FinSet as set
 use Rattle.std.specs.Ordering.{nat_cmp}
+use Rattle.pp_bytes.specs.Bytes.{bytes_of}
 use Rattle.pp_graph.specs.declared.call.NamedEdge.TheVariants as edge
 use Rattle.pp_graph.specs.declared.call.BuilderCall.{BuilderCall}
 use Rattle.pp_graph.specs.declared.call.BuilderCall.TheVariants as call
@@ -78,13 +78,9 @@ abbrev pub AddsStatement : ℕ → List Token → Told → Told → Type 0
 AddsStatement line tokens before after =
     (s : Statement) × IsStatement tokens s × Follow before.calls (statement_calls s) × (after ≡ tell line (statement_calls s) before)
 
--- the bytes of a set from this one on, each as a key
-abbrev pub keys_from : ℕ → set.FinSet nat_cmp → List (List ℕ)
-keys_from from s = map (λ b. b ∷ []) (filter (set.contains s) (range_with_len from (256 - from)))
-
--- the key of a byte, if a set has it
-abbrev pub key_in : set.FinSet nat_cmp → ℕ → List (List ℕ)
-key_in s b = map (λ b. b ∷ []) (filter (set.contains s) (b ∷ []))
+-- the bytes of a set, each as a key
+abbrev pub keys_of : set.FinSet nat_cmp → List (List ℕ)
+keys_of s = map (λ b. b ∷ []) (bytes_of s)
 
 -- What a row can come to: it leads on, or ends the text.
 pub data RowOutcome : Type 0 where

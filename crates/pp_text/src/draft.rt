@@ -1,13 +1,14 @@
 // What a text has told so far.
-ghost use Rattle.std.specs.Prelude.{◌≡◌, ◌+◌, ◌*◌, ◌<◌, ◌≤◌, ◌↔◌, ◌++◌, ◌∷◌, [], Some, None, Option, true, length, IsTrue, IsSome, IfOk, OnOk};
+ghost use Rattle.std.specs.Prelude.{◌≡◌, ◌+◌, ◌*◌, ◌<◌, ◌≤◌, ◌↔◌, ◌++◌, ◌∷◌, [], Some, None, Option, true, length, map, IsTrue, IsSome, IfOk, OnOk};
 ghost use Rattle.pp_graph.specs.declared.builder.LastNode.TheVariants as last;
 ghost use Rattle.pp_graph.specs.Calls.{HasForm, MayFollow, TakesOtherwise, last_node as last_node_of};
 ghost use Rattle.pp_graph.specs.Names.{IsName};
 ghost use Rattle.pp_text.specs.Text.{Told, Leads, nothing, first_tokens};
 ghost use Rattle.pp_text.specs.View.{token_of, tokens_of, call_of};
 ghost use Rattle.pp_text.specs.Reading.{count_told};
+ghost use Rattle.pp_text.specs.Lines.{lines_of};
 ghost use Rattle.pp_text.specs.Tokens.{Word as SpecWord, Quoted as SpecQuoted};
-ghost use Rattle.pp_text.specs.Steps.{IsAnswer, TakesEdge, AddsCall, AddsKeys, AddsToken, AddsTokens, AddsStatement, keys_from, key_in};
+ghost use Rattle.pp_text.specs.Steps.{IsAnswer, TakesEdge, edge_call, AddsCall, AddsKeys, AddsToken, AddsTokens, AddsStatement, keys_of};
 
 use crate::key::{key_of, set_of};
 use crate::statement::{Call, Statement, statement_of};
@@ -68,12 +69,12 @@ impl Draft {
         self.told.is_some()
     }
 
-    /// Its builder, and the line of each call.
-    pub(crate) fn into_parts(self) -> (GraphBuilder, Vec<u32>)
-        ensures { (told : Told) → self ≡ Some told → (result.0 ≡ told.calls) × (result.1.items ≡ told.lines) }
+    /// Its builder, and the lines of the calls.
+    pub(crate) fn into_parts(self) -> (GraphBuilder, Vec<Run>)
+        ensures { (told : Told) → self ≡ Some told → (result.0 ≡ told.calls) × (lines_of result.1.items ≡ told.lines) }
     {
         let calls = self.told.unwrap_or(Calls::new(self.alloc));
-        (calls.builder, calls.lines)
+        (calls.builder, calls.runs)
     }
 }
 
@@ -104,20 +105,28 @@ enum KeyUse {
     Peek,
 }
 
-// Calls, and the line of each.
+/// Calls that follow each other at one line.
+#[derive(Clone, Copy)]
+pub(crate) struct Run {
+    pub(crate) line: u32,
+    pub(crate) calls: usize,
+}
+
+// Calls, and the line of each, as runs of one line.
 #[derive(Drop)]
 struct Calls {
     alloc: Global,
     builder: GraphBuilder,
-    lines: Vec<u32>,
+    runs: Vec<Run>,
 }
 
 impl Model for Calls {
     ghost use Rattle.pp_text.specs.Text.{Told};
+    ghost use Rattle.pp_text.specs.Lines.{lines_of};
 
     ghost Value = { Told };
 
-    ghost view = { λ c. record { calls = c.builder; lines = c.lines.items } };
+    ghost view = { λ c. record { calls = c.builder; lines = lines_of c.runs.items } };
 }
 
 impl Calls {
@@ -127,7 +136,7 @@ impl Calls {
         Calls {
             alloc,
             builder: GraphBuilder::new(alloc),
-            lines: Vec::new(alloc),
+            runs: Vec::new(alloc),
         }
     }
 
@@ -165,7 +174,7 @@ impl Calls {
             return Ok(false);
         }
         push_call(&mut self.builder, call)?;
-        self.lines.push(line)?;
+        self.runs.push(Run { line, calls: 1 })?;
         Ok(true)
     }
 
@@ -207,7 +216,7 @@ impl Calls {
             Token::Word(_) => Ok(false),
             Token::Quoted(inside) => self.add_quoted(line, inside, key_use, target),
             Token::Bracketed(inside) => match set_of(inside) {
-                Some(set) => self.add_set(line, &set, key_use, target),
+                Some(set) => self.add_set(line, set, key_use, target),
                 None => Ok(false),
             },
         }
@@ -236,41 +245,22 @@ impl Calls {
     fn add_set(
         &mut self,
         line: u32,
-        set: &ByteSet,
+        set: ByteSet,
         key_use: KeyUse,
         target: &str,
     ) -> Result<bool, NoMemory>
         requires form { IsName target.now }
         requires room { length self.old.calls + 256 < 4294967295 }
-        ensures answer { IfOk result (λ led. IsAnswer led self.new (AddsKeys line key_use target.now (keys_from 0 set.now) self.old)) }
+        ensures answer { IfOk result (λ led. IsAnswer led self.new (AddsKeys line key_use target.now (keys_of set) self.old)) }
         ensures count { IfOk result (λ led. length self.new.calls ≤ length self.old.calls + 256) }
     {
-        for byte in 0..256u16 {
-            if !self.add_member(line, set, byte as u8, key_use, target)? {
-                return Ok(false);
-            }
+        let calls = set.len();
+        if self.builder.last_node() != LastNode::Match {
+            return Ok(calls == 0);
         }
+        push_set(&mut self.builder, set, key_use, target)?;
+        self.runs.push(Run { line, calls })?;
         Ok(true)
-    }
-
-    // Adds the edge of a byte, if the set has it. False where it may not stand here.
-    fn add_member(
-        &mut self,
-        line: u32,
-        set: &ByteSet,
-        byte: u8,
-        key_use: KeyUse,
-        target: &str,
-    ) -> Result<bool, NoMemory>
-        requires form { IsName target.now }
-        requires room { length self.old.calls < 4294967295 }
-        ensures answer { IfOk result (λ led. IsAnswer led self.new (AddsKeys line key_use target.now (key_in set.now byte) self.old)) }
-        ensures count { IfOk result (λ led. length self.new.calls ≤ length self.old.calls + 1) }
-    {
-        if !set.has(byte) {
-            return Ok(true);
-        }
-        self.add_key(line, &[byte], key_use, target)
     }
 
     // Adds the edge of a key. False where it may not stand here.
@@ -289,8 +279,26 @@ impl Calls {
         if !push_edge(&mut self.builder, key, key_use, target)? {
             return Ok(false);
         }
-        self.lines.push(line)?;
+        self.runs.push(Run { line, calls: 1 })?;
         Ok(true)
+    }
+}
+
+// Adds the edges of the bytes of a set, behind a match node.
+fn push_set(
+    builder: &mut GraphBuilder,
+    set: ByteSet,
+    key_use: KeyUse,
+    target: &str,
+) -> Result<(), NoMemory>
+    requires form { IsName target.now }
+    requires follows { last_node_of builder.old ≡ last.Match }
+    requires room { length builder.old + 256 < 4294967295 }
+    ensures { OnOk result (builder.new ≡ builder.old ++ map (edge_call key_use target.now) (keys_of set)) }
+{
+    match key_use {
+        KeyUse::Key { number } => builder.keys(set, number, target),
+        KeyUse::Peek => builder.peeks(set, target),
     }
 }
 

@@ -7,10 +7,11 @@ ghost use Rattle.pp_text.specs.declared.fault.TextFault.TheVariants as fault;
 ghost use Rattle.pp_text.specs.Text.{Told, BeginWithText, IsWrongAt, IsTooLong, line_at, limit, end_tokens};
 ghost use Rattle.pp_text.specs.Outcome.{Reads, Breaks, IsFaultAlone};
 ghost use Rattle.pp_text.specs.Reading.{count_told};
+ghost use Rattle.pp_text.specs.Lines.{lines_of};
 ghost use Rattle.pp_text.specs.Steps.{IsRowAnswer, RowIs, LastIs, IsLineAnswer, IsLineFault, LinesAre, IsText, IsGraphFault};
 ghost use Rattle.pp_text.specs.View.{tokens_of};
 
-use crate::draft::{Draft, is_word};
+use crate::draft::{Draft, Run, is_word};
 use crate::fault::TextFault;
 use crate::line::{Line, first_line};
 use crate::row::{Behind, read_tokens};
@@ -170,11 +171,11 @@ fn is_end(tokens: &[Token<'_>]) -> bool
 fn close(draft: Draft, last: u32) -> Result<Graph, TextFault>
     ensures { (told : Told) → draft ≡ Some told → MatchResult result (λ graph. KeepsRules told.calls × (graph ≡ built told.calls)) (IsGraphFault told last) }
 {
-    let (builder, lines) = draft.into_parts();
+    let (builder, runs) = draft.into_parts();
     match builder.close() {
         Ok(graph) => Ok(graph),
         Err(GraphFault::Broken { rule, call }) => Err(TextFault::Graph {
-            line: line_of_call(&lines, call, last),
+            line: line_of_call(&runs, call, last),
             rule,
         }),
         Err(GraphFault::NoMemory) => Err(TextFault::NoMemory),
@@ -182,8 +183,15 @@ fn close(draft: Draft, last: u32) -> Result<Graph, TextFault>
 }
 
 // The line of a call by its number; behind the last call that of `end`.
-fn line_of_call(lines: &[u32], call: u32, last: u32) -> u32
-    ensures { result ≡ unwrap_or (slice_get lines.now call) last }
+fn line_of_call(runs: &[Run], call: u32, last: u32) -> u32
+    ensures { result ≡ unwrap_or (slice_get (lines_of runs.now) call) last }
 {
-    lines.get(call as usize).copied().unwrap_or(last)
+    let mut before = call as usize;
+    for run in runs {
+        if before < run.calls {
+            return run.line;
+        }
+        before -= run.calls;
+    }
+    last
 }

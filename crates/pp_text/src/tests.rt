@@ -112,7 +112,7 @@ const FIRST: &str =
     "graph 1\nhost hit match\nentry start\nnode start match\non \"a\" -> hit_it\nskip -> start\nnode hit_it call hit\nelse -> start\nend\n";
 
 // Texts that are refused, with their faults.
-const REFUSED: [(&str, TextFault); 17] = [
+const REFUSED: [(&str, TextFault); 25] = [
     ("", TextFault::Syntax { line: 1 }),
     ("\n\n", TextFault::Syntax { line: 2 }),
     ("\n\n ", TextFault::Syntax { line: 3 }),
@@ -161,6 +161,62 @@ const REFUSED: [(&str, TextFault); 17] = [
         TextFault::Graph {
             line: 4,
             rule: GraphRule::DuplicateName,
+        },
+    ),
+    (
+        "graph 1\nentry s\nnode s match;else -> s\npeek [0-9] \"x\" -> s\non [a-c] -> s\non [c-e] -> s\nend\n",
+        TextFault::Graph {
+            line: 6,
+            rule: GraphRule::KeyClash,
+        },
+    ),
+    (
+        "graph 1\nentry s\nnode s match;else -> s\non [a-c] -> s\npeek [c-e] -> s\nend\n",
+        TextFault::Graph {
+            line: 5,
+            rule: GraphRule::KeyClash,
+        },
+    ),
+    (
+        "graph 1\nentry s\nnode s match;else -> s\non [a-c] -> s\non \"bcd\" -> s\nend\n",
+        TextFault::Graph {
+            line: 5,
+            rule: GraphRule::PrefixGap,
+        },
+    ),
+    (
+        "graph 1\nentry s\nnode s match;else -> s\non \"bcd\" -> s\non [a-c] -> s\nend\n",
+        TextFault::Graph {
+            line: 5,
+            rule: GraphRule::PrefixGap,
+        },
+    ),
+    (
+        "graph 1\nentry s\nnode s match;else -> s\non [a-c] -> s\non [d-f] -> t\non [g] -> u\nend\n",
+        TextFault::Graph {
+            line: 5,
+            rule: GraphRule::UnknownName,
+        },
+    ),
+    (
+        "graph 1\nentry s\nnode s match;else -> s\non [a-c] -> s\non [d-f] = 1 -> s\nend\n",
+        TextFault::Graph {
+            line: 5,
+            rule: GraphRule::ValueTarget,
+        },
+    ),
+    (
+        "graph 1\nentry s\nnode s match;else -> s\non [a-c] -> s\nnode l match lower;else -> s\non [Z-\\x5f] -> s\nend\n",
+        TextFault::Graph {
+            line: 6,
+            rule: GraphRule::KeyNotFolded,
+        },
+    ),
+    (
+        "graph 1\nentry s\nnode s match;else -> s\non [a-c] -> s\non [d-f] \"\" -> s\non [g-i] -> s\nend\n",
+        TextFault::Graph {
+            line: 5,
+            rule: GraphRule::EmptyKey,
         },
     ),
 ];
@@ -216,6 +272,36 @@ fn lines_are_whole_within_the_limit(rt: HostRuntime) -> Result<(), Fail> {
         };
         assert_eq!(rt; got, want);
     }
+    Ok(())
+}
+
+// A node for each turn, with a set of all bytes, behind a first one. Each set weighs 256.
+fn text_of_sets(alloc: Global, nodes: u32) -> Result<Vec<u8>, Fail> {
+    let mut text = Vec::from_slice(alloc, b"graph 1\nentry s\nnode s match;else -> s\n")?;
+    for i in 0..nodes {
+        let name = [b'n', b'a' + (i / 26 % 26) as u8, b'a' + (i % 26) as u8];
+        text.extend_from_slice(b"node ")?;
+        text.extend_from_slice(&name)?;
+        text.extend_from_slice(b" match;else -> s\non [\\x00-\\xff] -> s\n")?;
+    }
+    text.extend_from_slice(b"end\n")?;
+    Ok(text)
+}
+
+// 78 sets of 256 bytes weigh 19,968, and the next one passes the limit of 20,000.
+#[test]
+fn each_byte_of_a_set_weighs(rt: HostRuntime) -> Result<(), Fail> {
+    let alloc = rt.alloc();
+    let text = text_of_sets(alloc, 78)?;
+    let (_, used) = read_graph(alloc, &text)?;
+    assert_eq!(rt; used, text.len());
+    let more = text_of_sets(alloc, 79)?;
+    let fault = read_graph(alloc, &more).map(|read| read.1);
+    let want = TextFault::Graph {
+        line: 161,
+        rule: GraphRule::TooMany,
+    };
+    assert_eq!(rt; fault, Err(want));
     Ok(())
 }
 

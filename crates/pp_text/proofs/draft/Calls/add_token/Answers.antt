@@ -1,7 +1,7 @@
 -- What a token gives.
 use Rattle.std.proofs.Common.{ap}
 use Rattle.std.proofs.lemmas.Result.{IfOk-weaker}
-use Rattle.pp_text.specs.Steps.{IsAnswer, AddsKeys, AddsToken, keys_from}
+use Rattle.pp_text.specs.Steps.{IsAnswer, AddsKeys, AddsToken, keys_of}
 use Rattle.pp_text.specs.View.{token_of}
 use Rattle.pp_text.proofs.DraftLemmas.{IsAnswer-same, bracketed_same, bracketed_none}
 use Rattle.pp_text.proofs.draft.Calls.add_token.Goals as goal
@@ -15,7 +15,7 @@ returns-in-Some-clause-answer c =
     let b = c.add_set.new.self in
     let inside = c.in-Bracketed.inside.now in
     let s = c.in-Some.set in
-    let One = AddsKeys line how target (keys_from 0 s) a in
+    let One = AddsKeys line how target (keys_of s) a in
     let Whole = AddsToken line how target (token_of c.args.token) a in
     let same = bracketed_same line how target inside (token_of c.args.token) s a (ap token_of c.in-Bracketed.is) c.in-Some.ensures.found c.in-Some.ensures.only in
     IfOk-weaker c.add_set.result (λ led. IsAnswer led b One) (λ led. IsAnswer led b Whole) (λ led h. IsAnswer-same led b One Whole same h) c.add_set.ensures.answer
