@@ -1,11 +1,12 @@
 -- What calls add up to, for the rules that look back.
-use Rattle.std.specs.Prelude.{◌≡◌, ℕ, ◌+◌, ◌||◌, ◌++◌, List, Bool, false, IsTrue, IsSomeAnd, slice_get, take, length, nat_le, nat_lt, sum_by}
+use Rattle.std.specs.Prelude.{◌≡◌, ℕ, ◌+◌, ◌<◌, ◌||◌, ◌++◌, List, Bool, false, Option, Some, IsTrue, IsSomeAnd, slice_get, take, length, nat_le, nat_lt, sum_by}
+use Rattle.std.specs.Prelude.{None as none}
 use Rattle.pp_graph.specs.declared.call.BuilderCall.{BuilderCall}
 use Rattle.pp_graph.specs.declared.fault.GraphRule.{GraphRule}
 use Rattle.pp_graph.specs.declared.fault.GraphRule.TheVariants.{DuplicateName, UnknownName, NoEntry, NoOtherwise, KeyClash, PrefixGap, ValueTarget, ValueTooWide, EmptyKey, KeyNotFolded, TooMany}
 use Rattle.pp_graph.specs.declared.seen.Seen.{Seen}
 use Rattle.pp_graph.specs.Calls.{since_node}
-use Rattle.pp_graph.specs.Rules.{edges_of, keys_of, is_lower, weight_of_call, is_clash, is_not_folded, passes_limit}
+use Rattle.pp_graph.specs.Rules.{edges_of, keys_of, is_lower, weight_of_call, is_clash, is_not_folded, passes_limit, FailsAt}
 use Rattle.pp_graph.specs.OwnEdges.{HasEdges}
 use Rattle.pp_graph.specs.Room.{HasRoom}
 
@@ -61,6 +62,25 @@ IsByName ValueTooWide = Unit {0}
 IsByName EmptyKey = Unit {0}
 IsByName KeyNotFolded = ⊥
 IsByName TooMany = ⊥
+
+-- those of them that ask nothing of the calls before one
+abbrev pub IsByItself : GraphRule → Type 0
+IsByItself DuplicateName = ⊥
+IsByItself UnknownName = Unit {0}
+IsByItself NoEntry = Unit {0}
+IsByItself NoOtherwise = Unit {0}
+IsByItself KeyClash = ⊥
+IsByItself PrefixGap = ⊥
+IsByItself ValueTarget = Unit {0}
+IsByItself ValueTooWide = Unit {0}
+IsByItself EmptyKey = Unit {0}
+IsByItself KeyNotFolded = ⊥
+IsByItself TooMany = ⊥
+
+-- the first call at which a rule fails, or none where it fails at no call; the end is no call
+abbrev pub IsFirstFailing : GraphRule → List BuilderCall → Option ℕ → Type 0
+IsFirstFailing rule calls none = (j : ℕ) → j < length calls → ¬ (FailsAt rule calls j)
+IsFirstFailing rule calls (Some i) = (i < length calls) × FailsAt rule calls i × ((j : ℕ) → j < i → ¬ (FailsAt rule calls j))
 
 -- such a rule fails at the call of this rank among a few, behind those before them
 abbrev pub FailsBehind : GraphRule → List BuilderCall → List BuilderCall → ℕ → Type 0

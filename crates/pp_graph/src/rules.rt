@@ -2,10 +2,10 @@
 ghost use Rattle.std.specs.Prelude.{◌≡◌, ◌<◌, ◌≤◌, ◌^◌, ℕ, List, length, false, IsNone, IsTrue, IfSome, IfOk};
 ghost use Rattle.pp_graph.specs.declared.call.BuilderCall.{BuilderCall as Call};
 ghost use Rattle.pp_graph.specs.Rules.{KeepsRules, IsFirstFault, FailsAt, fails as fails_of, fails_at_end as fails_at_end_of};
-ghost use Rattle.pp_graph.specs.NameLists.{names_in};
+ghost use Rattle.pp_graph.specs.declared.fault.GraphRule.TheVariants as rules;
 ghost use Rattle.pp_graph.specs.Sets.{all_calls, AreSets};
 ghost use Rattle.pp_graph.specs.Gaps.{IsLeast};
-ghost use Rattle.pp_graph.specs.Seen.{IsByName};
+ghost use Rattle.pp_graph.specs.Seen.{IsByName, IsByItself, IsFirstFailing};
 
 use crate::call::BuilderCall;
 use crate::calls::number_of;
@@ -100,20 +100,40 @@ fn first_failing_call(
     values: &Values<'_>,
 ) -> Result<Option<usize>, AllocError>
     requires { IsByName rule }
-    ensures none { IfOk result (λ found. IsNone found → (j : ℕ) → j < length values.now → ¬ (FailsAt rule values.now j)) }
-    ensures fails { IfOk result (λ found. IfSome found (λ i. FailsAt rule values.now i)) }
-    ensures none_before { IfOk result (λ found. IfSome found (λ i. (j : ℕ) → j < i → ¬ (FailsAt rule values.now j))) }
-    ensures within { IfOk result (λ found. IfSome found (λ i. i < length values.now)) }
+    ensures { IfOk result (IsFirstFailing rule values.now) }
 {
-    let calls = values.declared().calls();
+    match rule {
+        GraphRule::DuplicateName => first_duplicate(alloc, values.declared().calls()),
+        _ => Ok(first_by_itself(rule, values)),
+    }
+}
+
+// The first call that declares what an earlier one does.
+fn first_duplicate(alloc: Global, calls: &[BuilderCall]) -> Result<Option<usize>, AllocError>
+    ensures { IfOk result (IsFirstFailing rules.DuplicateName calls.now) }
+{
     let mut names = Names::new(alloc);
     for i in 0..calls.len() {
-        if fails(rule, values, &names, &calls[i], &calls[i + 1..]) {
+        if is_duplicate(&names, &calls[i]) {
             return Ok(Some(i));
         }
         names.add(alloc, &calls[i])?;
     }
     Ok(None)
+}
+
+// The first kept call at which a rule fails that asks nothing of the calls before one.
+fn first_by_itself(rule: GraphRule, values: &Values<'_>) -> Option<usize>
+    requires { IsByItself rule }
+    ensures { IsFirstFailing rule values.now result }
+{
+    let calls = values.declared().calls();
+    for i in 0..calls.len() {
+        if fails(rule, values, &calls[i], &calls[i + 1..]) {
+            return Some(i);
+        }
+    }
+    None
 }
 
 // The count of all calls, if a rule fails behind the last of them.
@@ -139,25 +159,19 @@ fn fails_at_end(rule: GraphRule, values: &Values<'_>) -> bool
     }
 }
 
-// Whether such a rule fails at a call, with what all the calls declare, what those before it declare, and those behind it.
-fn fails(
-    rule: GraphRule,
-    values: &Values<'_>,
-    before: &Names,
-    call: &BuilderCall,
-    after: &[BuilderCall],
-) -> bool
-    requires { IsByName rule }
-    ensures { (calls : List Call) → before.now ≡ names_in calls → result ≡ fails_of rule values.now calls call.now after.now }
+// Whether such a rule fails at a call, with what all the calls declare and those behind it.
+fn fails(rule: GraphRule, values: &Values<'_>, call: &BuilderCall, after: &[BuilderCall]) -> bool
+    requires { IsByItself rule }
+    ensures { (before : List Call) → result ≡ fails_of rule values.now before call.now after.now }
 {
     match rule {
-        GraphRule::DuplicateName => is_duplicate(before, call),
         GraphRule::UnknownName => names_unknown(values.declared(), call),
         GraphRule::NoOtherwise => lacks_otherwise(call, after),
         GraphRule::ValueTarget => is_value_fault(values, call),
         GraphRule::ValueTooWide => is_too_wide(values, call),
         GraphRule::EmptyKey => is_empty_key(call),
-        GraphRule::NoEntry
+        GraphRule::DuplicateName
+        | GraphRule::NoEntry
         | GraphRule::KeyClash
         | GraphRule::PrefixGap
         | GraphRule::KeyNotFolded

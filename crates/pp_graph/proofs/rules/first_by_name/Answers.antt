@@ -1,15 +1,16 @@
-use Rattle.std.proofs.Common.{ℕ, ◌<◌, Some, length, ap, sym, subst, arith}
-use Rattle.std.specs.Prelude.{IfSome, is_some}
+use Rattle.std.proofs.Common.{◌<◌, Some, length, sym, subst, arith}
 use Rattle.pp_graph.specs.Rules.{FailsAt}
 use Rattle.pp_graph.specs.Sets.{all_calls}
 use Rattle.pp_graph.specs.Gaps.{IsLeast}
+use Rattle.pp_graph.specs.Seen.{IsFirstFailing}
 use Rattle.pp_graph.proofs.SetLemmas.{length-sets}
 use Rattle.pp_graph.proofs.FirstFaultLemmas.{sum-within, least-kept, least-end}
 use Rattle.pp_graph.proofs.rules.first_by_name.Goals as goal
 
 pub number_of-requires-clause-within : goal.number_of-requires-clause-within
 number_of-requires-clause-within c =
-    let inside : c.in-Some.place < length c.args.values.now = subst (λ found. IfSome found (λ i. i < length c.args.values.now)) c.in-Some.is c.in_ok-place.ensures.within in
+    let first = subst (IsFirstFailing c.args.rule c.args.values.now) c.in-Some.is c.in_ok-place.ensures in
+    let inside : c.in-Some.place < length c.args.values.now = first.0 in
     omega (arith, length-sets c.args.values.now c.args.sets.now c.requires.sets)
 
 pub number_of-requires-clause-small : goal.number_of-requires-clause-small
@@ -18,12 +19,11 @@ number_of-requires-clause-small c =
 
 pub returns-in-Some : goal.returns-in-Some
 returns-in-Some c =
-    let inside : c.in-Some.place < length c.args.values.now = subst (λ found. IfSome found (λ i. i < length c.args.values.now)) c.in-Some.is c.in_ok-place.ensures.within in
-    let fails : FailsAt c.args.rule c.args.values.now c.in-Some.place = subst (λ found. IfSome found (FailsAt c.args.rule c.args.values.now)) c.in-Some.is c.in_ok-place.ensures.fails in
-    let before : (j : ℕ) → j < c.in-Some.place → ¬ (FailsAt c.args.rule c.args.values.now j) = subst (λ found. IfSome found (λ i. (j : ℕ) → j < i → ¬ (FailsAt c.args.rule c.args.values.now j))) c.in-Some.is c.in_ok-place.ensures.none_before in
+    let first = subst (IsFirstFailing c.args.rule c.args.values.now) c.in-Some.is c.in_ok-place.ensures in
     subst (λ n. IsLeast (FailsAt c.args.rule (all_calls c.args.values.now c.args.sets.now)) (Some n)) (sym c.number_of.ensures)
-    (least-kept c.args.rule c.requires.rule c.args.values.now c.args.sets.now c.requires.sets c.in-Some.place inside fails before)
+    (least-kept c.args.rule c.requires.rule c.args.values.now c.args.sets.now c.requires.sets c.in-Some.place first.0 first.1 first.2)
 
 pub returns-in-None : goal.returns-in-None
 returns-in-None c =
-    least-end c.args.rule c.requires.rule c.args.values.now c.args.sets.now c.requires.sets c.failure_at_end.result (c.in_ok-place.ensures.none (ap is_some c.in-None.is)) c.failure_at_end.ensures.none c.failure_at_end.ensures.some
+    let nowhere = subst (IsFirstFailing c.args.rule c.args.values.now) c.in-None.is c.in_ok-place.ensures in
+    least-end c.args.rule c.requires.rule c.args.values.now c.args.sets.now c.requires.sets c.failure_at_end.result nowhere c.failure_at_end.ensures.none c.failure_at_end.ensures.some
