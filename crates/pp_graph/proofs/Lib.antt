@@ -17,9 +17,12 @@ pub mod WeightLemmas
 pub mod WellFormedLemmas
 pub mod LeastLemmas
 pub mod KeyLemmas
+pub mod BeginLemmas
 pub mod SortedKeyLemmas
+pub mod KnownLemmas
 pub mod KeyTableLemmas
 pub mod StandLemmas
+pub mod LineLemmas
 pub mod GapLemmas
 pub mod GapStepLemmas
 pub mod GapSetLemmas

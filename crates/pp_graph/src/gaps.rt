@@ -1,4 +1,4 @@
-// The first prefix gap of all calls: the nodes one by one, each by a table of its keys.
+// The first prefix gap of all calls: the nodes one by one, each by the places of its keys.
 ghost use Rattle.std.specs.Prelude.{◌≡◌, ◌+◌, ◌^◌, ◌<◌, length, option_map, IfOk, IfSome};
 ghost use Rattle.pp_graph.specs.Calls.{own_calls as own_calls_of};
 ghost use Rattle.pp_graph.specs.Rules.{FailsAt};
@@ -9,7 +9,7 @@ use crate::call::BuilderCall;
 use crate::calls::size_of;
 use crate::edges::{is_node, own_calls};
 use crate::fault::GraphRule;
-use crate::keys::{KeyTable, lesser};
+use crate::keys::{first_gap_place, lesser};
 use pp_bytes::ByteSet;
 use std::alloc::{AllocError, Global};
 
@@ -49,8 +49,8 @@ fn first_of_node(
     ensures { IfOk result (IsLeast (IsGapFrom (own_calls_of (all_calls calls.now sets.now)) number)) }
 {
     let own = own_calls(calls);
-    let table = KeyTable::of(alloc, own, &sets[..own.len()])?;
-    Ok(from_start(table.first_gap(), number))
+    let place = first_gap_place(alloc, own, &sets[..own.len()])?;
+    Ok(from_start(place, number))
 }
 
 // A place that counts from this start, if it is there, as one that counts from the first call.
