@@ -1,5 +1,5 @@
 // The rules, tried over the calls in order.
-ghost use Rattle.std.specs.Prelude.{◌≡◌, ◌<◌, ◌≤◌, ◌^◌, ℕ, List, length, false, IsNone, IsTrue, IfSome, IfOk};
+ghost use Rattle.std.specs.Prelude.{◌≡◌, ◌<◌, ◌≤◌, ◌^◌, List, length, false, IsNone, IsTrue, IfSome, IfOk};
 ghost use Rattle.pp_graph.specs.declared.call.BuilderCall.{BuilderCall as Call};
 ghost use Rattle.pp_graph.specs.Rules.{KeepsRules, IsFirstFault, FailsAt, fails as fails_of, fails_at_end as fails_at_end_of};
 ghost use Rattle.pp_graph.specs.declared.fault.GraphRule.TheVariants as rules;

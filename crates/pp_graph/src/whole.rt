@@ -1,6 +1,6 @@
 // The graph that a list of calls gives.
 ghost use Rattle.std.specs.Prelude.{◌≡◌, ◌<◌, ◌^◌, length, filter_map, IfOk};
-ghost use Rattle.pp_graph.specs.Calls.{HaveForm, own_calls as own_calls_of};
+ghost use Rattle.pp_graph.specs.Calls.{HaveForm};
 ghost use Rattle.pp_graph.specs.Built.{built, tables_of, prop_decl, host_decl, span_decl, nodes_in, kind_of as kind_in, code_of as code_in, constant_code, key_edge, peek_edge, answer_edge, other_in, entry_in, finish_in};
 ghost use Rattle.pp_graph.specs.Rules.{KeepsRules};
 

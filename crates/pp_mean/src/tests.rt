@@ -1,5 +1,5 @@
 // Runs of small graphs.
-ghost use Rattle.std.specs.Prelude.{◌≡◌, ◌<◌};
+ghost use Rattle.std.specs.Prelude.{◌<◌};
 
 use super::*;
 use pp_bytes::Fold;

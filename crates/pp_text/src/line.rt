@@ -1,5 +1,5 @@
 // Lines.
-ghost use Rattle.std.specs.Prelude.{ℕ, ◌<◌, IfSome, IsNone, length, take};
+ghost use Rattle.std.specs.Prelude.{◌<◌, IfSome, IsNone, length, take};
 ghost use Rattle.pp_text.specs.Text.{BeginWithLine, IsWithin, IsOneLine, IsRowOf};
 ghost use Rattle.pp_text.specs.View.{line_of};
 

@@ -4,7 +4,7 @@ ghost use Rattle.pp_outside.specs.Faults.{Rose};
 ghost use Rattle.pp_outside.specs.Sink.{Adds, AddsSome};
 ghost use Rattle.pp_text.specs.declared.fault.TextFault.TheVariants as text_fault;
 ghost use Rattle.pp_tool.specs.declared.refusal.Refusal.TheVariants as refusal;
-ghost use Rattle.pp_tool.specs.Answers.{Tells, WrongLine, graph_line, rule_text as text_of_rule};
+ghost use Rattle.pp_tool.specs.Answers.{Tells, WrongLine, rule_text as text_of_rule};
 ghost use Rattle.pp_tool.specs.Judged.{status_of, line_of, refusal_of, line_with, concat_slices};
 
 use crate::status::Status;
