@@ -1,7 +1,7 @@
 // Sets of bytes.
 ghost use Rattle.std.specs.Prelude.{◌≡◌, ℕ, ◌+◌, ◌<◌, ◌≤◌, ◌↔◌, [], length, true, IfSome, IfNone, IsSome, IsNone, IsTrue};
 ghost use Rattle.std.specs.FinSet as set;
-ghost use Rattle.pp_bytes.specs.Bytes.{bytes_of};
+ghost use Rattle.pp_bytes.specs.Bytes.{bytes_of, set_of_table};
 ghost use Rattle.pp_bytes.specs.Found.{EndsRun, HasRunsBelow};
 ghost use Rattle.pp_bytes.specs.Ranges.{in_ranges};
 ghost use Rattle.pp_bytes.specs.Runs.{begins_run, runs_of};
@@ -54,12 +54,7 @@ impl ByteSet {
     pub fn is_empty(&self) -> bool
         ensures { IsTrue result ↔ (bytes_of self.now ≡ []) }
     {
-        for b in 0..=u8::MAX {
-            if self.has(b) {
-                return false;
-            }
-        }
-        true
+        no_bits(&self.words)
     }
 
     /// How many bytes are in the set.
@@ -123,4 +118,11 @@ impl ByteSet {
         }
         end
     }
+}
+
+// Whether a table has no bit set.
+fn no_bits(words: &[u64; 4]) -> bool
+    ensures { IsTrue result ↔ (bytes_of (set_of_table words.now) ≡ []) }
+{
+    *words == [0; 4]
 }
