@@ -61,13 +61,7 @@ impl ByteSet {
     pub fn len(&self) -> usize
         ensures { result ≡ length (bytes_of self.now) }
     {
-        let mut count = 0;
-        for b in 0..=u8::MAX {
-            if self.has(b) {
-                count += 1;
-            }
-        }
-        count
+        set_bits(&self.words)
     }
 
     /// The bytes of the set as ranges, one for each run of neighbouring bytes.
@@ -125,4 +119,14 @@ fn no_bits(words: &[u64; 4]) -> bool
     ensures { IsTrue result ↔ (bytes_of (set_of_table words.now) ≡ []) }
 {
     *words == [0; 4]
+}
+
+// How many bits of a table are set.
+fn set_bits(words: &[u64]) -> usize
+    requires { length words.now ≡ 4 }
+    ensures { result ≡ length (bytes_of (set_of_table words.now)) }
+{
+    let low = words[0].count_ones() + words[1].count_ones();
+    let high = words[2].count_ones() + words[3].count_ones();
+    (low + high) as usize
 }
