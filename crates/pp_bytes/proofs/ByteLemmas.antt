@@ -37,10 +37,6 @@ few_bytes bytes = omega (arith, length-filter (contains bytes) all_bytes, count_
 pub few_bytes_below : (bytes : FinSet nat_cmp) (n : ℕ) → length (bytes_below bytes n) ≤ length (bytes_of bytes)
 few_bytes_below bytes n = omega (arith, ap length (bytes_split bytes n), length-append (bytes_below bytes n) (filter (contains bytes) (drop n all_bytes)))
 
--- a set with a byte is not empty
-pub some_bytes : (bytes : FinSet nat_cmp) (b : ℕ) → b < 256 → contains bytes b ≡ true → 0 < length (bytes_of bytes)
-some_bytes bytes b h held = omega (arith, few_bytes_below bytes (b + 1), ap length (bytes_below_yes bytes b h held), length_push (bytes_below bytes b) b)
-
 -- the count of the bytes below the next number
 pub count_yes : (bytes : FinSet nat_cmp) (b n m : ℕ) → b < 256 → contains bytes b ≡ true → n ≡ length (bytes_below bytes b) → m ≡ n + 1 → m ≡ length (bytes_below bytes (b + 1))
 count_yes bytes b n m h held e f = omega (arith, e, f, ap length (bytes_below_yes bytes b h held), length_push (bytes_below bytes b) b)

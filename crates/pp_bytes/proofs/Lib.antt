@@ -1,4 +1,5 @@
 pub mod ByteLemmas
+pub mod CountLemmas
 pub mod NumberLemmas
 pub mod NumberRows
 pub mod RangesLemmas

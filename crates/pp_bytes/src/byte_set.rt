@@ -1,7 +1,7 @@
 // Sets of bytes.
 ghost use Rattle.std.specs.Prelude.{◌≡◌, ℕ, ◌+◌, ◌<◌, ◌≤◌, ◌↔◌, [], length, true, IfSome, IfNone, IsSome, IsNone, IsTrue};
 ghost use Rattle.std.specs.FinSet as set;
-ghost use Rattle.pp_bytes.specs.Bytes.{bytes_of};
+ghost use Rattle.pp_bytes.specs.Bytes.{bytes_of, set_of_table};
 ghost use Rattle.pp_bytes.specs.Found.{EndsRun, HasRunsBelow};
 ghost use Rattle.pp_bytes.specs.Ranges.{in_ranges};
 ghost use Rattle.pp_bytes.specs.Runs.{begins_run, runs_of};
@@ -54,25 +54,14 @@ impl ByteSet {
     pub fn is_empty(&self) -> bool
         ensures { IsTrue result ↔ (bytes_of self.now ≡ []) }
     {
-        for b in 0..=u8::MAX {
-            if self.has(b) {
-                return false;
-            }
-        }
-        true
+        no_bits(&self.words)
     }
 
     /// How many bytes are in the set.
     pub fn len(&self) -> usize
         ensures { result ≡ length (bytes_of self.now) }
     {
-        let mut count = 0;
-        for b in 0..=u8::MAX {
-            if self.has(b) {
-                count += 1;
-            }
-        }
-        count
+        set_bits(&self.words)
     }
 
     /// The bytes of the set as ranges, one for each run of neighbouring bytes.
@@ -123,4 +112,21 @@ impl ByteSet {
         }
         end
     }
+}
+
+// Whether a table has no bit set.
+fn no_bits(words: &[u64; 4]) -> bool
+    ensures { IsTrue result ↔ (bytes_of (set_of_table words.now) ≡ []) }
+{
+    *words == [0; 4]
+}
+
+// How many bits of a table are set.
+fn set_bits(words: &[u64]) -> usize
+    requires { length words.now ≡ 4 }
+    ensures { result ≡ length (bytes_of (set_of_table words.now)) }
+{
+    let low = words[0].count_ones() + words[1].count_ones();
+    let high = words[2].count_ones() + words[3].count_ones();
+    (low + high) as usize
 }
