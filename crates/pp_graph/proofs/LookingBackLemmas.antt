@@ -18,7 +18,7 @@ use Rattle.pp_graph.specs.declared.seen.Seen.{Seen}
 use Rattle.pp_graph.specs.Rules.{fails, fails_at_end, fails_at_call, FailsAt}
 use Rattle.pp_graph.specs.Sets.{byte_call, spread, all_calls, IsSetOf, AreSets, size_of}
 use Rattle.pp_graph.specs.Gaps.{IsLeast}
-use Rattle.pp_graph.specs.Seen.{SumsUp, LooksBack, FailsBehind, fails_back}
+use Rattle.pp_graph.specs.Seen.{TakesIn, LooksBack, FailsBehind, fails_back}
 use Rattle.pp_graph.proofs.LeastLemmas.{IsLeast-none, IsLeast-some, IsLeast-same, IsLeast-image}
 use Rattle.pp_graph.proofs.SetLemmas.{spread-set, length-sets, all-more, all-split, all-drop, number-is}
 
@@ -144,15 +144,15 @@ least-kept rule before c h = IsLeast-none (FailsBehind rule before (c ∷ [])) n
 -- that these are taken in
 pub record AreBelow (rule : GraphRule) (how : ByteUse) (bytes : FinSet nat_cmp) (first seen : Seen) (b rank : ℕ) : Type 0 where
   pub counted : rank ≡ length (bytes_below bytes b)
-  pub kept : (before : List BuilderCall) (target : List ℕ) → SumsUp first before → IsLeast (FailsBehind rule before (map (byte_call how target) (bytes_below bytes b))) none
-  pub taken : (before : List BuilderCall) (target : List ℕ) → SumsUp first before → SumsUp seen (before ++ map (byte_call how target) (bytes_below bytes b))
+  pub kept : (before : List BuilderCall) (target : List ℕ) → TakesIn rule first before → IsLeast (FailsBehind rule before (map (byte_call how target) (bytes_below bytes b))) none
+  pub taken : (before : List BuilderCall) (target : List ℕ) → TakesIn rule first before → TakesIn rule seen (before ++ map (byte_call how target) (bytes_below bytes b))
 
 -- before the first byte
 pub below-first : (rule : GraphRule) (how : ByteUse) (bytes : FinSet nat_cmp) (first : Seen) → AreBelow rule how bytes first first 0 0
 below-first rule how bytes first = record {
   counted = refl;
   kept = λ before target h. IsLeast-none (FailsBehind rule before []) (λ j f. f);
-  taken = λ before target h. subst (SumsUp first) (sym (append-nil before)) h;
+  taken = λ before target h. subst (TakesIn rule first) (sym (append-nil before)) h;
 }
 
 -- behind a byte that is not in the set
@@ -162,7 +162,7 @@ below-out rule how bytes first seen after b rank more h out below e f =
     record {
       counted = count_no bytes b rank more h out below.counted f;
       kept = λ before target s. subst (λ xs. IsLeast (FailsBehind rule before (map (byte_call how target) xs)) none) same (below.kept before target s);
-      taken = λ before target s. subst (λ xs. SumsUp after (before ++ map (byte_call how target) xs)) same (subst (λ a. SumsUp a (before ++ map (byte_call how target) (bytes_below bytes b))) (sym e) (below.taken before target s));
+      taken = λ before target s. subst (λ xs. TakesIn rule after (before ++ map (byte_call how target) xs)) same (subst (λ a. TakesIn rule a (before ++ map (byte_call how target) (bytes_below bytes b))) (sym e) (below.taken before target s));
     }
 
 -- the edge of a byte that is in the set comes behind these
@@ -177,7 +177,7 @@ edges-least rule before how target bytes b found h held kept least =
     subst (λ xs. IsLeast (FailsBehind rule before xs) (option_map (λ k. length few + k) found)) (sym (edges-more how target bytes b h held)) (least-behind rule before few (byte_call how target b ∷ []) found kept least)
 
 -- behind a byte at whose edge the rule does not fail
-pub below-kept : (rule : GraphRule) (how : ByteUse) (bytes : FinSet nat_cmp) (first seen after : Seen) (b rank more : ℕ) → b < 256 → contains bytes b ≡ true → AreBelow rule how bytes first seen b rank → ((before : List BuilderCall) (target : List ℕ) → SumsUp seen before → fails_back rule before (byte_call how target b) ≡ false) → ((before : List BuilderCall) (target : List ℕ) → SumsUp seen before → SumsUp after (before ++ byte_call how target b ∷ [])) → more ≡ rank + 1 → AreBelow rule how bytes first after (b + 1) more
+pub below-kept : (rule : GraphRule) (how : ByteUse) (bytes : FinSet nat_cmp) (first seen after : Seen) (b rank more : ℕ) → b < 256 → contains bytes b ≡ true → AreBelow rule how bytes first seen b rank → ((before : List BuilderCall) (target : List ℕ) → TakesIn rule seen before → fails_back rule before (byte_call how target b) ≡ false) → ((before : List BuilderCall) (target : List ℕ) → TakesIn rule seen before → TakesIn rule after (before ++ byte_call how target b ∷ [])) → more ≡ rank + 1 → AreBelow rule how bytes first after (b + 1) more
 below-kept rule how bytes first seen after b rank more h held below keeps adds e =
     record {
       counted = count_yes bytes b rank more h held below.counted e;
@@ -187,11 +187,11 @@ below-kept rule how bytes first seen after b rank more h held below keeps adds e
       taken = λ before target s.
           let few = map (byte_call how target) (bytes_below bytes b) in
           let added = adds (before ++ few) target (below.taken before target s) in
-          subst (λ xs. SumsUp after (before ++ xs)) (sym (edges-more how target bytes b h held)) (subst (SumsUp after) (append_assoc before few (byte_call how target b ∷ [])) added);
+          subst (λ xs. TakesIn rule after (before ++ xs)) (sym (edges-more how target bytes b h held)) (subst (TakesIn rule after) (append_assoc before few (byte_call how target b ∷ [])) added);
     }
 
 -- at the first edge where the rule fails
-pub below-fails : (rule : GraphRule) (how : ByteUse) (bytes : FinSet nat_cmp) (first seen : Seen) (b rank : ℕ) (before : List BuilderCall) (target : List ℕ) → b < 256 → contains bytes b ≡ true → AreBelow rule how bytes first seen b rank → SumsUp first before → fails_back rule (before ++ map (byte_call how target) (bytes_below bytes b)) (byte_call how target b) ≡ true → IsLeast (FailsBehind rule before (map (byte_call how target) (bytes_of bytes))) (Some rank)
+pub below-fails : (rule : GraphRule) (how : ByteUse) (bytes : FinSet nat_cmp) (first seen : Seen) (b rank : ℕ) (before : List BuilderCall) (target : List ℕ) → b < 256 → contains bytes b ≡ true → AreBelow rule how bytes first seen b rank → TakesIn rule first before → fails_back rule (before ++ map (byte_call how target) (bytes_below bytes b)) (byte_call how target b) ≡ true → IsLeast (FailsBehind rule before (map (byte_call how target) (bytes_of bytes))) (Some rank)
 below-fails rule how bytes first seen b rank before target h held below s f =
     let edges = map (byte_call how target) in
     let few = edges (bytes_below bytes b) in
@@ -203,10 +203,10 @@ below-fails rule how bytes first seen b rank before target h held below s f =
     subst (λ xs. IsLeast (FailsBehind rule before xs) (Some rank)) (sym all) (least-before rule before next others rank least)
 
 -- behind the last byte
-pub below-last : (rule : GraphRule) (how : ByteUse) (bytes : FinSet nat_cmp) (first seen : Seen) (b rank : ℕ) (before : List BuilderCall) (target : List ℕ) → 256 ≤ b → AreBelow rule how bytes first seen b rank → SumsUp first before → IsLeast (FailsBehind rule before (map (byte_call how target) (bytes_of bytes))) none × SumsUp seen (before ++ map (byte_call how target) (bytes_of bytes))
+pub below-last : (rule : GraphRule) (how : ByteUse) (bytes : FinSet nat_cmp) (first seen : Seen) (b rank : ℕ) (before : List BuilderCall) (target : List ℕ) → 256 ≤ b → AreBelow rule how bytes first seen b rank → TakesIn rule first before → IsLeast (FailsBehind rule before (map (byte_call how target) (bytes_of bytes))) none × TakesIn rule seen (before ++ map (byte_call how target) (bytes_of bytes))
 below-last rule how bytes first seen b rank before target h below s =
     let all = bytes_below_all bytes b h in
-    (subst (λ xs. IsLeast (FailsBehind rule before (map (byte_call how target) xs)) none) all (below.kept before target s), subst (λ xs. SumsUp seen (before ++ map (byte_call how target) xs)) all (below.taken before target s))
+    (subst (λ xs. IsLeast (FailsBehind rule before (map (byte_call how target) xs)) none) all (below.kept before target s), subst (λ xs. TakesIn rule seen (before ++ map (byte_call how target) xs)) all (below.taken before target s))
 
 -- a kept call with a set stands for the edges of its bytes, whatever their target is
 pub spread-use : (c : BuilderCall) (s : Option (FinSet nat_cmp)) (bytes : FinSet nat_cmp) (how : ByteUse) → IsSetOf c s → s ≡ Some bytes → ((other : ByteUse) (target : List ℕ) (b : ℕ) → c ≡ byte_call other target b → how ≡ other) → (target : List ℕ) × (spread c s ≡ map (byte_call how target) (bytes_of bytes))

@@ -1,5 +1,5 @@
 -- What calls add up to, for the rules that look back.
-use Rattle.std.specs.Prelude.{◌≡◌, ℕ, ◌+◌, ◌<◌, ◌||◌, ◌++◌, List, Bool, false, Option, Some, IsTrue, IsSomeAnd, slice_get, take, length, nat_le, nat_lt, sum_by}
+use Rattle.std.specs.Prelude.{◌≡◌, ◌≢◌, ℕ, ◌+◌, ◌<◌, ◌||◌, ◌++◌, List, Bool, false, Option, Some, IsTrue, IsSomeAnd, slice_get, take, length, nat_le, nat_lt, sum_by}
 use Rattle.std.specs.Prelude.{None as none}
 use Rattle.pp_graph.specs.declared.call.BuilderCall.{BuilderCall}
 use Rattle.pp_graph.specs.declared.fault.GraphRule.{GraphRule}
@@ -10,11 +10,16 @@ use Rattle.pp_graph.specs.Rules.{edges_of, keys_of, is_lower, weight_of_call, is
 use Rattle.pp_graph.specs.OwnEdges.{HasEdges}
 use Rattle.pp_graph.specs.Room.{HasRoom}
 
--- these calls add up to it
+-- these calls add up to its edges and its room
 pub record SumsUp (seen : Seen) (before : List BuilderCall) : Type 0 where
   pub edges : HasEdges seen.edges (edges_of before)
-  pub lower : seen.lower ≡ is_lower before
   pub room : HasRoom seen.room before
+
+-- it has taken in what a rule asks of these calls: whether the present node compares in lower case, which is all that the
+-- rule of keys that aren't folded asks, and for any other rule what they add up to
+pub record TakesIn (rule : GraphRule) (seen : Seen) (before : List BuilderCall) : Type 0 where
+  pub lower : seen.lower ≡ is_lower before
+  pub sums : rule ≢ KeyNotFolded → SumsUp seen before
 
 -- a key of this length passes a limit
 abbrev pub key_passes_limit : List BuilderCall → ℕ → Bool

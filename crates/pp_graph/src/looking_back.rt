@@ -5,7 +5,7 @@ ghost use Rattle.pp_graph.specs.declared.call.BuilderCall.{BuilderCall as Call};
 ghost use Rattle.pp_graph.specs.Rules.{FailsAt};
 ghost use Rattle.pp_graph.specs.Sets.{all_calls, byte_call, spread, AreSets, IsSetOf};
 ghost use Rattle.pp_graph.specs.Gaps.{IsLeast};
-ghost use Rattle.pp_graph.specs.Seen.{SumsUp, LooksBack, FailsBehind};
+ghost use Rattle.pp_graph.specs.Seen.{TakesIn, LooksBack, FailsBehind};
 
 use crate::call::BuilderCall;
 use crate::calls::{ByteUse, number_of, use_of};
@@ -45,8 +45,8 @@ fn first_of_kept<'c>(
 ) -> Result<Option<usize>, AllocError>
     requires rule { LooksBack rule }
     requires set { IsSetOf call.now set.now }
-    ensures fails { IfOk result (λ found. (before : List Call) → SumsUp seen.old before → IsLeast (FailsBehind rule before (spread call.now set.now)) found) }
-    ensures taken { IfOk result (λ found. IsNone found → (before : List Call) → SumsUp seen.old before → SumsUp seen.new (before ++ spread call.now set.now)) }
+    ensures fails { IfOk result (λ found. (before : List Call) → TakesIn rule seen.old before → IsLeast (FailsBehind rule before (spread call.now set.now)) found) }
+    ensures taken { IfOk result (λ found. IsNone found → (before : List Call) → TakesIn rule seen.old before → TakesIn rule seen.new (before ++ spread call.now set.now)) }
 {
     match (set, use_of(call)) {
         (Some(bytes), Some((how, _))) => Ok(first_of_set(rule, seen, how, bytes)),
@@ -61,13 +61,13 @@ fn first_of_one<'c>(
     call: &'c BuilderCall,
 ) -> Result<Option<usize>, AllocError>
     requires rule { LooksBack rule }
-    ensures fails { IfOk result (λ found. (before : List Call) → SumsUp seen.old before → IsLeast (FailsBehind rule before (call.now ∷ [])) found) }
-    ensures taken { IfOk result (λ found. IsNone found → (before : List Call) → SumsUp seen.old before → SumsUp seen.new (before ++ call.now ∷ [])) }
+    ensures fails { IfOk result (λ found. (before : List Call) → TakesIn rule seen.old before → IsLeast (FailsBehind rule before (call.now ∷ [])) found) }
+    ensures taken { IfOk result (λ found. IsNone found → (before : List Call) → TakesIn rule seen.old before → TakesIn rule seen.new (before ++ call.now ∷ [])) }
 {
     if seen.fails(rule, call) {
         return Ok(Some(0));
     }
-    seen.add(call)?;
+    seen.add(rule, call)?;
     Ok(None)
 }
 
@@ -79,8 +79,8 @@ fn first_of_set(
     bytes: &ByteSet,
 ) -> Option<usize>
     requires rule { LooksBack rule }
-    ensures fails { (before : List Call) (target : List ℕ) → SumsUp seen.old before → IsLeast (FailsBehind rule before (map (byte_call how target) (bytes_of bytes.now))) result }
-    ensures taken { IsNone result → (before : List Call) (target : List ℕ) → SumsUp seen.old before → SumsUp seen.new (before ++ map (byte_call how target) (bytes_of bytes.now)) }
+    ensures fails { (before : List Call) (target : List ℕ) → TakesIn rule seen.old before → IsLeast (FailsBehind rule before (map (byte_call how target) (bytes_of bytes.now))) result }
+    ensures taken { IsNone result → (before : List Call) (target : List ℕ) → TakesIn rule seen.old before → TakesIn rule seen.new (before ++ map (byte_call how target) (bytes_of bytes.now)) }
 {
     let mut rank = 0;
     for byte in 0..=u8::MAX {
@@ -88,7 +88,7 @@ fn first_of_set(
             if seen.fails_at_byte(rule, how, byte) {
                 return Some(rank);
             }
-            seen.add_byte(how, byte);
+            seen.add_byte(rule, how, byte);
             rank += 1;
         }
     }

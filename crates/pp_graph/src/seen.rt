@@ -1,9 +1,10 @@
 // What the calls before the present one add up to.
 ghost use Rattle.std.specs.Prelude.{◌≡◌, ℕ, List, [], ◌∷◌, ◌++◌, OnOk};
 ghost use Rattle.pp_graph.specs.declared.call.BuilderCall.{BuilderCall as Call};
+ghost use Rattle.pp_graph.specs.declared.fault.GraphRule.{GraphRule as Rule};
 ghost use Rattle.pp_graph.specs.Sets.{byte_call};
-ghost use Rattle.pp_graph.specs.Seen.{SumsUp, fails_back, key_passes_limit as key_passes_limit_of};
-ghost use Rattle.pp_graph.specs.Rules.{is_clash as is_clash_of, is_not_folded as is_not_folded_of, passes_limit as passes_limit_of, edge_passes_limit as edge_passes_limit_of, lower_kind};
+ghost use Rattle.pp_graph.specs.Seen.{SumsUp, TakesIn, fails_back, key_passes_limit as key_passes_limit_of};
+ghost use Rattle.pp_graph.specs.Rules.{is_clash as is_clash_of, is_not_folded as is_not_folded_of, passes_limit as passes_limit_of, edge_passes_limit as edge_passes_limit_of, is_lower, lower_after as lower_after_of, lower_kind};
 
 use crate::call::{BuilderCall, NamedEdge, NamedKind};
 use crate::calls::ByteUse;
@@ -14,8 +15,8 @@ use crate::room::Room;
 use pp_bytes::Fold;
 use std::alloc::{AllocError, Global};
 
-/// What the calls before the present one add up to: the edges of the node that was added last, whether it compares in
-/// lower case, and the room that is left up to the limits.
+/// What the calls before the present one add up to, as far as a rule asks for it: the edges of the node that was added
+/// last, whether it compares in lower case, and the room that is left up to the limits.
 #[derive(Drop)]
 pub(crate) struct Seen<'c> {
     alloc: Global,
@@ -27,7 +28,7 @@ pub(crate) struct Seen<'c> {
 impl<'c> Seen<'c> {
     /// Before the first call. Takes no memory.
     pub(crate) fn new(alloc: Global) -> Seen<'c>
-        ensures { SumsUp result [] }
+        ensures { (rule : Rule) → TakesIn rule result [] }
     {
         Seen {
             alloc,
@@ -37,33 +38,33 @@ impl<'c> Seen<'c> {
         }
     }
 
-    /// Takes in one more call.
-    pub(crate) fn add(&mut self, call: &'c BuilderCall) -> Result<(), AllocError>
-        ensures { OnOk result ((before : List Call) → SumsUp self.old before → SumsUp self.new (before ++ call.now ∷ [])) }
+    /// Takes in what a rule asks of one more call.
+    pub(crate) fn add(&mut self, rule: GraphRule, call: &'c BuilderCall) -> Result<(), AllocError>
+        ensures { OnOk result ((before : List Call) → TakesIn rule self.old before → TakesIn rule self.new (before ++ call.now ∷ [])) }
     {
-        self.room = self.room.after(call);
-        match call {
-            BuilderCall::Node { kind, .. } => {
-                self.edges = OwnEdges::new(self.alloc);
-                self.lower = is_lower_kind(kind);
-            }
-            BuilderCall::Edge { edge, .. } => self.edges.add(edge)?,
-            _ => {}
+        self.lower = lower_after(self.lower, call);
+        match rule {
+            GraphRule::KeyNotFolded => Ok(()),
+            _ => self.sum_up(call),
         }
-        Ok(())
     }
 
-    /// Takes in the edge of one more byte.
-    pub(crate) fn add_byte(&mut self, how: ByteUse, byte: u8)
-        ensures { (before : List Call) (target : List ℕ) → SumsUp self.old before → SumsUp self.new (before ++ byte_call how target byte ∷ []) }
+    /// Takes in what a rule asks of the edge of one more byte.
+    pub(crate) fn add_byte(&mut self, rule: GraphRule, how: ByteUse, byte: u8)
+        ensures { (before : List Call) (target : List ℕ) → TakesIn rule self.old before → TakesIn rule self.new (before ++ byte_call how target byte ∷ []) }
     {
-        self.room = self.room.after_byte();
-        self.edges.add_byte(how, byte);
+        match rule {
+            GraphRule::KeyNotFolded => {}
+            _ => {
+                self.room = self.room.after_byte();
+                self.edges.add_byte(how, byte);
+            }
+        }
     }
 
     /// Whether such a rule fails at a call.
     pub(crate) fn fails(&self, rule: GraphRule, call: &BuilderCall) -> bool
-        ensures { (before : List Call) → SumsUp self.now before → result ≡ fails_back rule before call.now }
+        ensures { (before : List Call) → TakesIn rule self.now before → result ≡ fails_back rule before call.now }
     {
         match rule {
             GraphRule::KeyClash => self.is_clash(call),
@@ -75,7 +76,7 @@ impl<'c> Seen<'c> {
 
     /// Whether such a rule fails at the edge of a byte.
     pub(crate) fn fails_at_byte(&self, rule: GraphRule, how: ByteUse, byte: u8) -> bool
-        ensures { (before : List Call) (target : List ℕ) → SumsUp self.now before → result ≡ fails_back rule before (byte_call how target byte) }
+        ensures { (before : List Call) (target : List ℕ) → TakesIn rule self.now before → result ≡ fails_back rule before (byte_call how target byte) }
     {
         match rule {
             GraphRule::KeyClash => self.edges.clashes_with_byte(how, byte),
@@ -83,6 +84,19 @@ impl<'c> Seen<'c> {
             GraphRule::TooMany => self.byte_passes_limit(how),
             _ => false,
         }
+    }
+
+    // Adds one more call to the edges and to the room.
+    fn sum_up(&mut self, call: &'c BuilderCall) -> Result<(), AllocError>
+        ensures { OnOk result ((self.new.lower ≡ self.old.lower) × ((before : List Call) → SumsUp self.old before → SumsUp self.new (before ++ call.now ∷ []))) }
+    {
+        self.room = self.room.after(call);
+        match call {
+            BuilderCall::Node { .. } => self.edges = OwnEdges::new(self.alloc),
+            BuilderCall::Edge { edge, .. } => self.edges.add(edge)?,
+            _ => {}
+        }
+        Ok(())
     }
 
     // Whether an earlier edge of the same node clashes with the edge of a call.
@@ -97,7 +111,7 @@ impl<'c> Seen<'c> {
 
     // Whether a call adds a key or a peek byte from A to Z to a node that compares in lower case.
     fn is_not_folded(&self, call: &BuilderCall) -> bool
-        ensures { (before : List Call) → SumsUp self.now before → result ≡ is_not_folded_of before call.now }
+        ensures { (before : List Call) → self.now.lower ≡ is_lower before → result ≡ is_not_folded_of before call.now }
     {
         self.lower && has_upper_case(call)
     }
@@ -140,6 +154,21 @@ impl<'c> Seen<'c> {
         ensures { (before : List Call) → SumsUp self.now before → result ≡ key_passes_limit_of before len }
     {
         64 < len || self.edges.keys.is_full() || self.room.weight <= len
+    }
+}
+
+// Whether the present node compares in lower case, behind one more call.
+fn lower_after(lower: bool, call: &BuilderCall) -> bool
+    ensures { result ≡ lower_after_of lower call.now }
+{
+    match call {
+        BuilderCall::Node { kind, .. } => is_lower_kind(kind),
+        BuilderCall::Prop { .. }
+        | BuilderCall::Host { .. }
+        | BuilderCall::Span { .. }
+        | BuilderCall::Entry { .. }
+        | BuilderCall::Finish { .. }
+        | BuilderCall::Edge { .. } => lower,
     }
 }
 

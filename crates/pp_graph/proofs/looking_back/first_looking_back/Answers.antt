@@ -3,10 +3,14 @@ use Rattle.std.specs.Prelude.{None as none}
 use Rattle.std.specs.Prelude.{IsNone}
 use Rattle.pp_graph.specs.Sets.{all_calls, spread}
 use Rattle.pp_graph.specs.Gaps.{IsLeast}
-use Rattle.pp_graph.specs.Seen.{SumsUp, FailsBehind}
+use Rattle.pp_graph.specs.Seen.{TakesIn, FailsBehind}
+use Rattle.pp_graph.proofs.LeastLemmas.{IsLeast-none}
 use Rattle.pp_graph.proofs.SetLemmas.{length-sets, set-at, all-more, number-is, number-le}
 use Rattle.pp_graph.proofs.LookingBackLemmas.{least-of-all, least-within, sets-found, sets-kept, sets-all}
 use Rattle.pp_graph.proofs.looking_back.first_looking_back.Goals as goal
+
+pub loop-i-init : goal.loop-i-init
+loop-i-init c = (c.new-seen.ensures c.args.rule, IsLeast-none (FailsBehind c.args.rule [] []) (λ j f. f))
 
 pub bounds-sets-i : goal.bounds-sets-i
 bounds-sets-i c = omega (arith, length-sets c.args.calls.now c.args.sets.now c.requires.sets)
@@ -41,7 +45,7 @@ loop-i-preserved c =
     let kept : IsLeast (FailsBehind c.args.rule first few) none = subst (IsLeast (FailsBehind c.args.rule first few)) c.in_default.is (c.in_ok-rank.ensures.fails first c.loop-i.invariant.0) in
     let more = all-more c.args.calls.now c.args.sets.now c.loop-i.i c.index-calls-i.result c.index-sets-i.result c.requires.sets (omega arith) c.index-calls-i.is c.index-sets-i.is in
     let nowhere : IsNone c.in_ok-rank.field-0 = subst IsNone (sym c.in_default.is) refl in
-    (subst (SumsUp c.first_of_kept.new.seen) (sym more) (c.in_ok-rank.ensures.taken nowhere first c.loop-i.invariant.0), sets-kept c.args.rule c.args.calls.now c.args.sets.now c.loop-i.i c.index-calls-i.result c.index-sets-i.result c.requires.sets (omega arith) c.index-calls-i.is c.index-sets-i.is c.loop-i.invariant.1 kept)
+    (subst (TakesIn c.args.rule c.first_of_kept.new.seen) (sym more) (c.in_ok-rank.ensures.taken nowhere first c.loop-i.invariant.0), sets-kept c.args.rule c.args.calls.now c.args.sets.now c.loop-i.i c.index-calls-i.result c.index-sets-i.result c.requires.sets (omega arith) c.index-calls-i.is c.index-sets-i.is c.loop-i.invariant.1 kept)
 
 pub returns : goal.returns
 returns c =

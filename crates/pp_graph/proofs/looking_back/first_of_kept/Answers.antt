@@ -4,7 +4,7 @@ use Rattle.pp_bytes.specs.Bytes.{bytes_of}
 use Rattle.pp_graph.specs.declared.call.BuilderCall.{BuilderCall}
 use Rattle.pp_graph.specs.Sets.{byte_call, spread, IsSetOf}
 use Rattle.pp_graph.specs.Gaps.{IsLeast}
-use Rattle.pp_graph.specs.Seen.{SumsUp, FailsBehind}
+use Rattle.pp_graph.specs.Seen.{TakesIn, FailsBehind}
 use Rattle.pp_graph.proofs.LookingBackLemmas.{spread-use}
 use Rattle.pp_graph.proofs.looking_back.first_of_kept.Goals as goal
 use Rattle.pp_graph.proofs.looking_back.first_of_kept.Goals.{in_default-via-in-Some+in_default, in_default-via-in_default}
@@ -20,7 +20,7 @@ returns-in-Some-Some-clause-fails c before s =
 
 pub returns-in-Some-Some-clause-taken : goal.returns-in-Some-Some-clause-taken
 returns-in-Some-Some-clause-taken c none before s =
-    subst (λ xs. SumsUp c.first_of_set.new.seen (before ++ xs)) (sym (edges c).1) (c.first_of_set.ensures.taken none before (edges c).0 s)
+    subst (λ xs. TakesIn c.args.rule c.first_of_set.new.seen (before ++ xs)) (sym (edges c).1) (c.first_of_set.ensures.taken none before (edges c).0 s)
 
 -- one without a set stands for itself
 alone : (c : goal.After-first_of_one) → spread c.args.call.now c.args.set.now ≡ c.args.call.now ∷ []
@@ -33,4 +33,4 @@ alone c = elim c.in_default.branch [
 
 pub returns-in_default-clause-taken : goal.returns-in_default-clause-taken
 returns-in_default-clause-taken c =
-    subst (λ xs. IfOk c.first_of_one.result (λ found. IsNone found → (before : List BuilderCall) → SumsUp c.args.seen.now before → SumsUp c.first_of_one.new.seen (before ++ xs))) (sym (alone c)) c.first_of_one.ensures.taken
+    subst (λ xs. IfOk c.first_of_one.result (λ found. IsNone found → (before : List BuilderCall) → TakesIn c.args.rule c.args.seen.now before → TakesIn c.args.rule c.first_of_one.new.seen (before ++ xs))) (sym (alone c)) c.first_of_one.ensures.taken

@@ -1,15 +1,13 @@
-use Rattle.std.proofs.Common.{refl}
-use Rattle.pp_graph.proofs.SeenLemmas.{push-node, push-edge, push-other}
+use Rattle.std.proofs.Common.{false, ap, sym, ◌∙◌}
+use Rattle.std.proofs.lemmas.List.Sums.{fold_push}
+use Rattle.std.proofs.lemmas.Result.{on_ok_weaker}
+use Rattle.pp_graph.specs.Rules.{lower_after}
 use Rattle.pp_graph.proofs.seen.Seen.add.Goals as goal
 
-pub returns-in-Node : goal.returns-in-Node
-returns-in-Node c = λ before h.
-    push-node c.args.self.now _ before c.args.call.now c.in-Node.name c.in-Node.kind c.in-Node.is c.new.ensures c.is_lower_kind-self.ensures (c.after-self.ensures before h.room) h
-
-pub returns-in_ok-add-in-Edge : goal.returns-in_ok-add-in-Edge
-returns-in_ok-add-in-Edge c = λ before h.
-    push-edge c.args.self.now _ before c.args.call.now c.in-Edge.edge c.in-Edge.target c.in-Edge.is c.in_ok-add-in-Edge.ensures refl (c.after-self.ensures before h.room) h
-
 pub returns-in_default : goal.returns-in_default
-returns-in_default c = λ before h.
-    push-other c.args.self.now _ before refl refl h c.args.call.now c.in_default.not-Node c.in_default.not-Edge (c.after-self.ensures before h.room)
+returns-in_default c =
+    let call = c.args.call.now in
+    on_ok_weaker c.sum_up.result (λ summed before h. record {
+      lower = summed.0 ∙ (c.lower_after-self.ensures ∙ (ap (λ lower. lower_after lower call) h.lower ∙ sym (fold_push lower_after false before call)));
+      sums = λ other. summed.1 before (record { edges = (h.sums other).edges; room = (h.sums other).room });
+    }) c.sum_up.ensures
