@@ -1,5 +1,5 @@
 // The rules that look back from a call: at the edges of its node so far, and at the counts.
-ghost use Rattle.std.specs.Prelude.{◌≡◌, ◌<◌, ◌^◌, ◌++◌, ◌∷◌, ℕ, List, [], length, map, IsNone, IfOk};
+ghost use Rattle.std.specs.Prelude.{◌<◌, ◌^◌, ◌++◌, ◌∷◌, ℕ, List, [], length, map, IsNone, IfOk};
 ghost use Rattle.pp_bytes.specs.Bytes.{bytes_of};
 ghost use Rattle.pp_graph.specs.declared.call.BuilderCall.{BuilderCall as Call};
 ghost use Rattle.pp_graph.specs.Rules.{FailsAt};
