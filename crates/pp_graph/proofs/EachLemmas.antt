@@ -4,12 +4,11 @@ use Rattle.std.specs.Prelude.{bytes_eq}
 use Rattle.std.specs.Prelude.{None as none}
 use Rattle.std.specs.List.{list_any, cons_option}
 use Rattle.std.proofs.lemmas.Bool.{false≢true}
-use Rattle.std.proofs.lemmas.Bool.Decides.{same_from_decides, Decides-like}
 use Rattle.std.proofs.lemmas.List.Sums.{sum_by-cons}
 use Rattle.std.proofs.lemmas.Slice.Eq.{bytes_eq-Decides}
 use Rattle.pp_graph.specs.Plan.{AreDistinct}
 use Rattle.pp_graph.specs.Built.{place_of}
-use Rattle.pp_graph.proofs.TableLemmas.{Each}
+use Rattle.pp_graph.proofs.TableLemmas.{Each, bytes_eq-comm}
 
 -- what a failed `||` says of its sides
 pub or_false_left : (a b : Bool) → (a || b) ≡ false → a ≡ false
@@ -38,10 +37,6 @@ or_false false = refl
 pub and_false : (b : Bool) → (b && false) ≡ false
 and_false true = refl
 and_false false = refl
-
-pub bytes_eq-comm : (a b : List ℕ) → bytes_eq a b ≡ bytes_eq b a
-bytes_eq-comm a b =
-    same_from_decides (bytes_eq a b) (bytes_eq b a) (bytes_eq-Decides a b) (Decides-like (bytes_eq b a) sym sym (bytes_eq-Decides b a))
 
 -- it holds of each element and each later one
 abbrev pub Pairs : {X : Type 0} → (X → X → Type 0) → List X → Type 0

@@ -13,7 +13,7 @@ use Rattle.pp_graph.specs.declared.fault.GraphRule.{GraphRule}
 use Rattle.pp_graph.specs.Rules.{fails_at, fails_at_call, fails_at_end, FailsAt}
 use Rattle.pp_graph.specs.Sets.{all_calls, AreSets, size_of}
 use Rattle.pp_graph.specs.Seen.{IsByName}
-use Rattle.pp_graph.specs.Gaps.{IsLeast}
+use Rattle.pp_graph.specs.Least.{IsLeast}
 use Rattle.pp_graph.proofs.LeastLemmas.{IsLeast-none, IsLeast-some}
 use Rattle.pp_graph.proofs.RuleLemmas.{fails_at-length}
 use Rattle.pp_graph.proofs.SetLemmas.{number-is, number-le}

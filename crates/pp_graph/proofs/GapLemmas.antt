@@ -13,7 +13,8 @@ use Rattle.pp_graph.specs.declared.fault.GraphRule.TheVariants.{PrefixGap}
 use Rattle.pp_graph.specs.Calls.{is_node, own_calls, since_node, since_after}
 use Rattle.pp_graph.specs.Keys.{has_gap}
 use Rattle.pp_graph.specs.Rules.{edge_of, key_of_edge, keys_of, gaps_with, gaps_with_any, fails_at, FailsAt}
-use Rattle.pp_graph.specs.Gaps.{IsLeast, key_of, IsKeyAt, IsGapAt, IsGapFrom, FailsBetween}
+use Rattle.pp_graph.specs.Least.{IsLeast}
+use Rattle.pp_graph.specs.Gaps.{key_of, IsKeyAt, IsGapAt, IsGapFrom, FailsBetween}
 use Rattle.pp_graph.proofs.LeastLemmas.{IsLeast-same, IsLeast-image}
 use Rattle.pp_graph.proofs.KeyLemmas.{place-of_any, any-of_place, key-below, or-true, or-left, or-right, and-true, lt-of_test}
 use Rattle.pp_graph.proofs.EachLemmas.{or_false_left, or_false_right}

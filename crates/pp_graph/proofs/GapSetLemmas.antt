@@ -12,7 +12,8 @@ use Rattle.pp_graph.specs.declared.call.BuilderCall.{BuilderCall}
 use Rattle.pp_graph.specs.declared.call.BuilderCall.TheVariants as call
 use Rattle.pp_graph.specs.Calls.{is_node, own_calls}
 use Rattle.pp_graph.specs.Sets.{call_with, spread, all_calls, IsSetOf, AreSets, size_of}
-use Rattle.pp_graph.specs.Gaps.{IsLeast, lesser, IsGapFrom, FailsBelow, end_of_node}
+use Rattle.pp_graph.specs.Least.{IsLeast, lesser}
+use Rattle.pp_graph.specs.Gaps.{IsGapFrom, FailsBelow, end_of_node}
 use Rattle.pp_graph.proofs.SetLemmas.{length-spread, length-sets, all-split, all-drop, number-is, number-le, sets-drop}
 use Rattle.pp_graph.proofs.GapLemmas.{own-node, own-call}
 use Rattle.pp_graph.proofs.GapStepLemmas.{behind-node, below-more, end-node}

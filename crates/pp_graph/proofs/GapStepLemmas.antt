@@ -10,7 +10,8 @@ use Rattle.pp_graph.specs.declared.call.BuilderCall.TheVariants as call
 use Rattle.pp_graph.specs.declared.fault.GraphRule.TheVariants.{PrefixGap}
 use Rattle.pp_graph.specs.Calls.{is_node, own_calls, since_node}
 use Rattle.pp_graph.specs.Rules.{edge_of, keys_of, gaps_with_any, fails_at_call, FailsAt}
-use Rattle.pp_graph.specs.Gaps.{IsLeast, lesser, IsGapFrom, FailsBelow, FailsBetween, end_of_node}
+use Rattle.pp_graph.specs.Least.{IsLeast, lesser}
+use Rattle.pp_graph.specs.Gaps.{IsGapFrom, FailsBelow, FailsBetween, end_of_node}
 use Rattle.pp_graph.proofs.LeastLemmas.{IsLeast-same, IsLeast-lesser}
 use Rattle.pp_graph.proofs.RuleLemmas.{fails_at-within}
 use Rattle.pp_graph.proofs.GapLemmas.{least-node, since-node, own-node}

@@ -17,7 +17,8 @@ use Rattle.pp_graph.specs.declared.key_set.KeySet.{KeySet}
 use Rattle.pp_graph.specs.Keys.{is_key}
 use Rattle.pp_graph.specs.Rules.{begins_with_byte}
 use Rattle.pp_graph.specs.OwnKeys.{HasKeys}
-use Rattle.pp_graph.proofs.EachLemmas.{or_false, bytes_eq-comm}
+use Rattle.pp_graph.proofs.TableLemmas.{bytes_eq-comm}
+use Rattle.pp_graph.proofs.EachLemmas.{or_false}
 
 -- a set of bytes with one byte more
 pub contains-byte : (s : FinSet nat_cmp) (b q : ℕ) → contains (insert s b) q ≡ (contains s q || q == b)

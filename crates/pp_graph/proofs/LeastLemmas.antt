@@ -2,7 +2,7 @@
 use Rattle.std.proofs.Common.{◌≡◌, ℕ, ◌≤◌, ◌⊎◌, inl, inr, min, Option, Some, option_map, subst, arith}
 use Rattle.std.specs.Prelude.{None as none}
 use Rattle.std.proofs.lemmas.Bool.{cases_lt}
-use Rattle.pp_graph.specs.Gaps.{IsLeast, lesser}
+use Rattle.pp_graph.specs.Least.{IsLeast, lesser}
 
 -- it holds of none
 pub IsLeast-none : (P : ℕ → Type 0) → ((j : ℕ) → P j → ⊥) → IsLeast P none

@@ -17,7 +17,7 @@ use Rattle.pp_graph.specs.declared.fault.GraphRule.TheVariants.{DuplicateName, U
 use Rattle.pp_graph.specs.declared.seen.Seen.{Seen}
 use Rattle.pp_graph.specs.Rules.{fails, fails_at_end, fails_at_call, FailsAt}
 use Rattle.pp_graph.specs.Sets.{byte_call, spread, all_calls, IsSetOf, AreSets, size_of}
-use Rattle.pp_graph.specs.Gaps.{IsLeast}
+use Rattle.pp_graph.specs.Least.{IsLeast}
 use Rattle.pp_graph.specs.Seen.{TakesIn, LooksBack, FailsBehind, fails_back}
 use Rattle.pp_graph.proofs.LeastLemmas.{IsLeast-none, IsLeast-some, IsLeast-same, IsLeast-image}
 use Rattle.pp_graph.proofs.SetLemmas.{spread-set, length-sets, all-more, all-split, all-drop, number-is}

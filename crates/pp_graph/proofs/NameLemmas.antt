@@ -12,7 +12,8 @@ use Rattle.pp_graph.specs.declared.call.BuilderCall.TheVariants as call
 use Rattle.pp_graph.specs.declared.call.Sort.TheVariants as sort
 use Rattle.pp_graph.specs.Calls.{is_declared, is_declared_by, declared_by}
 use Rattle.pp_graph.specs.NameLists.{NameLists, no_names, is_among, with_name, with_call, names_in}
-use Rattle.pp_graph.proofs.EachLemmas.{bytes_eq-comm, or_false}
+use Rattle.pp_graph.proofs.TableLemmas.{bytes_eq-comm}
+use Rattle.pp_graph.proofs.EachLemmas.{or_false}
 
 -- a place that is not found is the length
 absent-step : (b : Bool) (n m : ℕ) → nat_lt n m ≡ b → n ≤ m → cond b (Some n) none ≡ none → n ≡ m

@@ -1,5 +1,5 @@
 -- What calls add up to, after one more.
-use Rattle.std.proofs.Common.{◌≡◌, ◌≢◌, ℕ, List, [], ◌∷◌, ◌++◌, filter_map, refl, ap, sym, ◌∙◌, subst}
+use Rattle.std.proofs.Common.{◌≡◌, ◌≢◌, ℕ, List, [], ◌∷◌, ◌++◌, false, filter_map, refl, ap, sym, ◌∙◌, subst}
 use Rattle.std.specs.Prelude.{None as none}
 use Rattle.std.specs.List.{cons_option}
 use Rattle.std.proofs.lemmas.List.{append-nil}
@@ -9,12 +9,14 @@ use Rattle.pp_graph.specs.declared.call.NamedKind.{NamedKind}
 use Rattle.pp_graph.specs.declared.call.NamedEdge.{NamedEdge}
 use Rattle.pp_graph.specs.declared.call.BuilderCall.{BuilderCall}
 use Rattle.pp_graph.specs.declared.call.BuilderCall.TheVariants as call
+use Rattle.pp_graph.specs.declared.fault.GraphRule.{GraphRule}
+use Rattle.pp_graph.specs.declared.fault.GraphRule.TheVariants.{KeyNotFolded}
 use Rattle.pp_graph.specs.declared.seen.Seen.{Seen}
 use Rattle.pp_graph.specs.Calls.{since_after, since_node}
-use Rattle.pp_graph.specs.Rules.{edge_of, edges_of}
+use Rattle.pp_graph.specs.Rules.{edge_of, edges_of, lower_after}
 use Rattle.pp_graph.specs.OwnEdges.{HasEdges}
 use Rattle.pp_graph.specs.Room.{HasRoom}
-use Rattle.pp_graph.specs.Seen.{SumsUp}
+use Rattle.pp_graph.specs.Seen.{SumsUp, TakesIn}
 
 -- the calls since the last node, with one more
 since-push : (before : List BuilderCall) (c : BuilderCall) → since_node (before ++ c ∷ []) ≡ since_after (since_node before) c
@@ -39,6 +41,13 @@ push-edge old new before c when target e added room h =
     push new before c
     (subst (λ d. HasEdges new.edges (filter_map edge_of (since_after (since_node before) d))) (sym e) (subst (HasEdges new.edges) (sym more) (added (edges_of before) h.edges)))
     room
+
+-- what a rule asks of one more call, by the case that the node compares in and the sums
+pub takes-one : (rule : GraphRule) (old new : Seen) (before : List BuilderCall) (c : BuilderCall) → new.lower ≡ lower_after old.lower c → (SumsUp old before → SumsUp new (before ++ c ∷ [])) → TakesIn rule old before → TakesIn rule new (before ++ c ∷ [])
+takes-one rule old new before c lower sums h = record {
+  lower = lower ∙ (ap (λ was. lower_after was c) h.lower ∙ sym (fold_push lower_after false before c));
+  sums = λ other. sums (h.sums other);
+}
 
 -- behind a call that adds neither a node nor an edge
 module _ (old new : Seen) (before : List BuilderCall) (same : new.edges ≡ old.edges) (h : SumsUp old before) where

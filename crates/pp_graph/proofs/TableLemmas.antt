@@ -43,7 +43,8 @@ IsTable-push limit names name t new room =
       few = omega (arith, length_push names name);
     }
 
-bytes_eq-comm : (a b : List ℕ) → bytes_eq a b ≡ bytes_eq b a
+-- equality of bytes goes both ways
+pub bytes_eq-comm : (a b : List ℕ) → bytes_eq a b ≡ bytes_eq b a
 bytes_eq-comm a b =
     same_from_decides (bytes_eq a b) (bytes_eq b a) (bytes_eq-Decides a b) (Decides-like (bytes_eq b a) sym sym (bytes_eq-Decides b a))
 

@@ -11,6 +11,8 @@ pub mod Room
 pub mod OwnKeys
 pub mod OwnEdges
 pub mod Seen
+pub mod Least
 pub mod Gaps
+pub mod KeyTables
 pub mod Lookups
 pub mod Sets

@@ -3,7 +3,8 @@ ghost use Rattle.std.specs.Prelude.{◌≡◌, ◌+◌, ◌^◌, ◌<◌, length
 ghost use Rattle.pp_graph.specs.Calls.{own_calls as own_calls_of};
 ghost use Rattle.pp_graph.specs.Rules.{FailsAt};
 ghost use Rattle.pp_graph.specs.Sets.{all_calls, AreSets};
-ghost use Rattle.pp_graph.specs.Gaps.{IsLeast, IsGapFrom};
+ghost use Rattle.pp_graph.specs.Least.{IsLeast};
+ghost use Rattle.pp_graph.specs.Gaps.{IsGapFrom};
 
 use crate::call::BuilderCall;
 use crate::calls::size_of;

@@ -1,5 +1,5 @@
 // The keys of one node, borrowed from the calls and kept so that an equal one is found without going over them.
-ghost use Rattle.std.specs.Prelude.{◌≡◌, ◌≢◌, ℕ, List, [], ◌∷◌, ◌++◌, ◌||◌, length, nat_le, OnOk};
+ghost use Rattle.std.specs.Prelude.{◌≡◌, ◌≢◌, ℕ, List, [], ◌∷◌, ◌++◌, ◌||◌, length, nat_le, IfOk, OnOk};
 ghost use Rattle.std.specs.FinSet as set;
 ghost use Rattle.std.specs.List.{list_any};
 ghost use Rattle.pp_graph.specs.Keys.{is_key};
@@ -32,52 +32,39 @@ impl<'c> KeySet<'c> {
         }
     }
 
-    /// Adds a key, which may be there already.
-    pub(crate) fn add(&mut self, key: &'c [u8]) -> Result<(), AllocError>
-        ensures { OnOk result ((keys : List (List ℕ)) → HasKeys self.old keys → HasKeys self.new (keys ++ key.now ∷ [])) }
+    /// Adds a key, which may be there already. Answers whether it was.
+    pub(crate) fn add(&mut self, key: &'c [u8]) -> Result<bool, AllocError>
+        ensures added { OnOk result ((keys : List (List ℕ)) → HasKeys self.old keys → HasKeys self.new (keys ++ key.now ∷ [])) }
+        ensures there { IfOk result (λ there. (keys : List (List ℕ)) → HasKeys self.old keys → there ≡ is_key keys key.now) }
     {
         match key {
-            [byte] => self.add_byte(*byte),
-            _ => self.add_whole(key)?,
+            [byte] => Ok(self.add_byte(*byte)),
+            _ => self.add_whole(key),
         }
-        Ok(())
     }
 
-    // Adds a key whose length isn't 1, which may be there already.
-    fn add_whole(&mut self, key: &'c [u8]) -> Result<(), AllocError>
+    // Adds a key whose length isn't 1, which may be there already. Answers whether it was.
+    fn add_whole(&mut self, key: &'c [u8]) -> Result<bool, AllocError>
         requires { length key.now ≢ 1 }
-        ensures { OnOk result ((keys : List (List ℕ)) → HasKeys self.old keys → HasKeys self.new (keys ++ key.now ∷ [])) }
+        ensures added { OnOk result ((keys : List (List ℕ)) → HasKeys self.old keys → HasKeys self.new (keys ++ key.now ∷ [])) }
+        ensures there { IfOk result (λ there. (keys : List (List ℕ)) → HasKeys self.old keys → there ≡ is_key keys key.now) }
     {
-        self.whole.insert(key)?;
+        let is_new = self.whole.insert(key)?;
         add_first(&mut self.first_bytes, key);
         self.more = self.more.saturating_sub(1);
-        Ok(())
+        Ok(!is_new)
     }
 
-    /// Adds a key of one byte, which may be there already.
-    pub(crate) fn add_byte(&mut self, byte: u8)
-        ensures { (keys : List (List ℕ)) → HasKeys self.old keys → HasKeys self.new (keys ++ (byte ∷ []) ∷ []) }
+    /// Adds a key of one byte, which may be there already. Answers whether it was.
+    pub(crate) fn add_byte(&mut self, byte: u8) -> bool
+        ensures added { (keys : List (List ℕ)) → HasKeys self.old keys → HasKeys self.new (keys ++ (byte ∷ []) ∷ []) }
+        ensures there { (keys : List (List ℕ)) → HasKeys self.old keys → result ≡ is_key keys (byte ∷ []) }
     {
+        let there = self.bytes.has(byte);
         self.bytes.add(byte);
         self.first_bytes.add(byte);
         self.more = self.more.saturating_sub(1);
-    }
-
-    /// Whether one of the keys is this one.
-    pub(crate) fn has(&self, key: &[u8]) -> bool
-        ensures { (keys : List (List ℕ)) → HasKeys self.now keys → result ≡ is_key keys key.now }
-    {
-        match key {
-            [byte] => self.has_byte(*byte),
-            _ => self.whole.contains(key),
-        }
-    }
-
-    /// Whether one of the keys is this byte alone.
-    pub(crate) fn has_byte(&self, byte: u8) -> bool
-        ensures { (keys : List (List ℕ)) → HasKeys self.now keys → result ≡ is_key keys (byte ∷ []) }
-    {
-        self.bytes.has(byte)
+        there
     }
 
     /// Whether one of the keys begins with a byte.

@@ -4,7 +4,7 @@ ghost use Rattle.pp_bytes.specs.Bytes.{bytes_of};
 ghost use Rattle.pp_graph.specs.declared.call.BuilderCall.{BuilderCall as Call};
 ghost use Rattle.pp_graph.specs.Rules.{FailsAt};
 ghost use Rattle.pp_graph.specs.Sets.{all_calls, byte_call, spread, AreSets, IsSetOf};
-ghost use Rattle.pp_graph.specs.Gaps.{IsLeast};
+ghost use Rattle.pp_graph.specs.Least.{IsLeast};
 ghost use Rattle.pp_graph.specs.Seen.{TakesIn, LooksBack, FailsBehind};
 
 use crate::call::BuilderCall;
@@ -64,11 +64,8 @@ fn first_of_one<'c>(
     ensures fails { IfOk result (λ found. (before : List Call) → TakesIn rule seen.old before → IsLeast (FailsBehind rule before (call.now ∷ [])) found) }
     ensures taken { IfOk result (λ found. IsNone found → (before : List Call) → TakesIn rule seen.old before → TakesIn rule seen.new (before ++ call.now ∷ [])) }
 {
-    if seen.fails(rule, call) {
-        return Ok(Some(0));
-    }
-    seen.add(rule, call)?;
-    Ok(None)
+    let fails = seen.add(rule, call)?;
+    Ok(if fails { Some(0) } else { None })
 }
 
 // The same of the edges of a set.
@@ -85,10 +82,9 @@ fn first_of_set(
     let mut rank = 0;
     for byte in 0..=u8::MAX {
         if bytes.has(byte) {
-            if seen.fails_at_byte(rule, how, byte) {
+            if seen.add_byte(rule, how, byte) {
                 return Some(rank);
             }
-            seen.add_byte(rule, how, byte);
             rank += 1;
         }
     }

@@ -1,7 +1,8 @@
 // The edges of one node, kept so that a clash with one more is found without going over them.
-ghost use Rattle.std.specs.Prelude.{◌≡◌, List, [], ◌∷◌, ◌++◌, OnOk};
+ghost use Rattle.std.specs.Prelude.{◌≡◌, List, [], ◌∷◌, ◌++◌, ℕ, Option, IfOk, OnOk};
 ghost use Rattle.std.specs.List.{list_any};
 ghost use Rattle.pp_graph.specs.declared.call.NamedEdge.{NamedEdge as Edge};
+ghost use Rattle.pp_graph.specs.declared.call.NamedEdge.TheVariants as edges;
 ghost use Rattle.pp_graph.specs.OwnEdges.{HasEdges, begins_in as begins_in_of, key_clash};
 ghost use Rattle.pp_graph.specs.Rules.{edges_clash};
 ghost use Rattle.pp_graph.specs.Sets.{byte_edge};
@@ -33,58 +34,50 @@ impl<'c> OwnEdges<'c> {
         }
     }
 
-    /// Adds an edge.
-    pub(crate) fn add(&mut self, edge: &'c NamedEdge) -> Result<(), AllocError>
-        ensures { OnOk result ((own : List Edge) → HasEdges self.old own → HasEdges self.new (own ++ edge.now ∷ [])) }
+    /// Adds an edge. Answers whether one of those before clashes with it.
+    pub(crate) fn add(&mut self, edge: &'c NamedEdge) -> Result<bool, AllocError>
+        ensures added { OnOk result ((own : List Edge) → HasEdges self.old own → HasEdges self.new (own ++ edge.now ∷ [])) }
+        ensures clashes { IfOk result (λ clashes. (own : List Edge) → HasEdges self.old own → clashes ≡ list_any (λ e. edges_clash e edge.now) own) }
     {
         match edge {
-            NamedEdge::Key { bytes, .. } => self.keys.add(bytes.items())?,
-            NamedEdge::Peek { byte } => self.peeks.add(*byte),
+            NamedEdge::Key { bytes, .. } => self.add_key(bytes.items()),
+            NamedEdge::Peek { byte } => Ok(self.add_peek(*byte)),
             NamedEdge::Answer { number } => {
-                self.answers.insert(*number)?;
+                let is_new = self.answers.insert(*number)?;
+                Ok(!is_new)
             }
-            NamedEdge::Otherwise { .. } => {}
+            NamedEdge::Otherwise { .. } => Ok(false),
         }
-        Ok(())
     }
 
-    /// Adds the edge of a byte.
-    pub(crate) fn add_byte(&mut self, how: ByteUse, byte: u8)
-        ensures { (own : List Edge) → HasEdges self.old own → HasEdges self.new (own ++ byte_edge how byte ∷ []) }
+    // Adds the edge of a key. Answers whether one of those before is this key or a peek byte that it begins with.
+    fn add_key(&mut self, key: &'c [u8]) -> Result<bool, AllocError>
+        ensures added { OnOk result ((own : List Edge) (number : Option ℕ) → HasEdges self.old own → HasEdges self.new (own ++ edges.Key key.now number ∷ [])) }
+        ensures clashes { IfOk result (λ clashes. (own : List Edge) → HasEdges self.old own → clashes ≡ list_any (λ e. key_clash key.now e) own) }
+    {
+        let there = self.keys.add(key)?;
+        Ok(there || begins_in(&self.peeks, key))
+    }
+
+    /// Adds the edge of a byte. Answers whether one of those before clashes with it.
+    pub(crate) fn add_byte(&mut self, how: ByteUse, byte: u8) -> bool
+        ensures added { (own : List Edge) → HasEdges self.old own → HasEdges self.new (own ++ byte_edge how byte ∷ []) }
+        ensures clashes { (own : List Edge) → HasEdges self.old own → result ≡ list_any (λ e. edges_clash e (byte_edge how byte)) own }
     {
         match how {
-            ByteUse::Key { .. } => self.keys.add_byte(byte),
-            ByteUse::Peek => self.peeks.add(byte),
+            ByteUse::Key { .. } => self.keys.add_byte(byte) || self.peeks.has(byte),
+            ByteUse::Peek => self.add_peek(byte),
         }
     }
 
-    /// Whether one of the edges clashes with the edge of a byte.
-    pub(crate) fn clashes_with_byte(&self, how: ByteUse, byte: u8) -> bool
-        ensures { (own : List Edge) → HasEdges self.now own → result ≡ list_any (λ e. edges_clash e (byte_edge how byte)) own }
+    // Adds the edge of a peek byte. Answers whether one of those before is this peek byte or a key that begins with it.
+    fn add_peek(&mut self, byte: u8) -> bool
+        ensures added { (own : List Edge) → HasEdges self.old own → HasEdges self.new (own ++ edges.Peek byte ∷ []) }
+        ensures clashes { (own : List Edge) → HasEdges self.old own → result ≡ list_any (λ e. edges_clash e (edges.Peek byte)) own }
     {
-        match how {
-            ByteUse::Key { .. } => self.keys.has_byte(byte) || self.peeks.has(byte),
-            ByteUse::Peek => self.keys.has_begun(byte) || self.peeks.has(byte),
-        }
-    }
-
-    /// Whether one of the edges clashes with this one.
-    pub(crate) fn clashes(&self, edge: &NamedEdge) -> bool
-        ensures { (own : List Edge) → HasEdges self.now own → result ≡ list_any (λ e. edges_clash e edge.now) own }
-    {
-        match edge {
-            NamedEdge::Key { bytes, .. } => self.clashes_with_key(bytes.items()),
-            NamedEdge::Peek { byte } => self.keys.has_begun(*byte) || self.peeks.has(*byte),
-            NamedEdge::Answer { number } => self.answers.contains(number),
-            NamedEdge::Otherwise { .. } => false,
-        }
-    }
-
-    // Whether one of the edges is this key or a peek byte that it begins with.
-    fn clashes_with_key(&self, key: &[u8]) -> bool
-        ensures { (own : List Edge) → HasEdges self.now own → result ≡ list_any (λ e. key_clash key.now e) own }
-    {
-        self.keys.has(key) || begins_in(&self.peeks, key)
+        let clashes = self.keys.has_begun(byte) || self.peeks.has(byte);
+        self.peeks.add(byte);
+        clashes
     }
 }
 

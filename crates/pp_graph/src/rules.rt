@@ -4,7 +4,7 @@ ghost use Rattle.pp_graph.specs.declared.call.BuilderCall.{BuilderCall as Call};
 ghost use Rattle.pp_graph.specs.Rules.{KeepsRules, IsFirstFault, FailsAt, fails as fails_of, fails_at_end as fails_at_end_of};
 ghost use Rattle.pp_graph.specs.declared.fault.GraphRule.TheVariants as rules;
 ghost use Rattle.pp_graph.specs.Sets.{all_calls, AreSets};
-ghost use Rattle.pp_graph.specs.Gaps.{IsLeast};
+ghost use Rattle.pp_graph.specs.Least.{IsLeast};
 ghost use Rattle.pp_graph.specs.Seen.{IsByName, IsByItself, IsFirstFailing};
 
 use crate::call::BuilderCall;

@@ -1,10 +1,10 @@
 // What the calls before the present one add up to.
-ghost use Rattle.std.specs.Prelude.{◌≡◌, ℕ, List, [], ◌∷◌, ◌++◌, OnOk};
+ghost use Rattle.std.specs.Prelude.{◌≡◌, ℕ, List, [], ◌∷◌, ◌++◌, IfOk, OnOk};
 ghost use Rattle.pp_graph.specs.declared.call.BuilderCall.{BuilderCall as Call};
 ghost use Rattle.pp_graph.specs.declared.fault.GraphRule.{GraphRule as Rule};
 ghost use Rattle.pp_graph.specs.Sets.{byte_call};
 ghost use Rattle.pp_graph.specs.Seen.{SumsUp, TakesIn, fails_back, key_passes_limit as key_passes_limit_of};
-ghost use Rattle.pp_graph.specs.Rules.{is_clash as is_clash_of, is_not_folded as is_not_folded_of, passes_limit as passes_limit_of, edge_passes_limit as edge_passes_limit_of, is_lower, lower_after as lower_after_of, lower_kind};
+ghost use Rattle.pp_graph.specs.Rules.{is_clash, passes_limit as passes_limit_of, edge_passes_limit as edge_passes_limit_of, is_lower, lower_after as lower_after_of, lower_kind};
 
 use crate::call::{BuilderCall, NamedEdge, NamedKind};
 use crate::calls::ByteUse;
@@ -38,82 +38,75 @@ impl<'c> Seen<'c> {
         }
     }
 
-    /// Takes in what a rule asks of one more call.
-    pub(crate) fn add(&mut self, rule: GraphRule, call: &'c BuilderCall) -> Result<(), AllocError>
-        ensures { OnOk result ((before : List Call) → TakesIn rule self.old before → TakesIn rule self.new (before ++ call.now ∷ [])) }
+    /// Takes in what a rule asks of one more call. Answers whether the rule fails at it.
+    pub(crate) fn add(&mut self, rule: GraphRule, call: &'c BuilderCall) -> Result<bool, AllocError>
+        ensures taken { OnOk result ((before : List Call) → TakesIn rule self.old before → TakesIn rule self.new (before ++ call.now ∷ [])) }
+        ensures fails { IfOk result (λ fails. (before : List Call) → TakesIn rule self.old before → fails ≡ fails_back rule before call.now) }
     {
-        self.lower = lower_after(self.lower, call);
+        let lower = self.lower;
+        self.lower = lower_after(lower, call);
         match rule {
-            GraphRule::KeyNotFolded => Ok(()),
-            _ => self.sum_up(call),
-        }
-    }
-
-    /// Takes in what a rule asks of the edge of one more byte.
-    pub(crate) fn add_byte(&mut self, rule: GraphRule, how: ByteUse, byte: u8)
-        ensures { (before : List Call) (target : List ℕ) → TakesIn rule self.old before → TakesIn rule self.new (before ++ byte_call how target byte ∷ []) }
-    {
-        match rule {
-            GraphRule::KeyNotFolded => {}
+            GraphRule::KeyClash => self.sum_up(call),
+            GraphRule::KeyNotFolded => Ok(lower && has_upper_case(call)),
+            GraphRule::TooMany => {
+                let passes = self.passes_limit(call);
+                self.sum_up(call)?;
+                Ok(passes)
+            }
             _ => {
-                self.room = self.room.after_byte();
-                self.edges.add_byte(how, byte);
+                self.sum_up(call)?;
+                Ok(false)
             }
         }
     }
 
-    /// Whether such a rule fails at a call.
-    pub(crate) fn fails(&self, rule: GraphRule, call: &BuilderCall) -> bool
-        ensures { (before : List Call) → TakesIn rule self.now before → result ≡ fails_back rule before call.now }
+    /// Takes in what a rule asks of the edge of one more byte. Answers whether the rule fails at it.
+    pub(crate) fn add_byte(&mut self, rule: GraphRule, how: ByteUse, byte: u8) -> bool
+        ensures taken { (before : List Call) (target : List ℕ) → TakesIn rule self.old before → TakesIn rule self.new (before ++ byte_call how target byte ∷ []) }
+        ensures fails { (before : List Call) (target : List ℕ) → TakesIn rule self.old before → result ≡ fails_back rule before (byte_call how target byte) }
     {
         match rule {
-            GraphRule::KeyClash => self.is_clash(call),
-            GraphRule::KeyNotFolded => self.is_not_folded(call),
-            GraphRule::TooMany => self.passes_limit(call),
-            _ => false,
-        }
-    }
-
-    /// Whether such a rule fails at the edge of a byte.
-    pub(crate) fn fails_at_byte(&self, rule: GraphRule, how: ByteUse, byte: u8) -> bool
-        ensures { (before : List Call) (target : List ℕ) → TakesIn rule self.now before → result ≡ fails_back rule before (byte_call how target byte) }
-    {
-        match rule {
-            GraphRule::KeyClash => self.edges.clashes_with_byte(how, byte),
+            GraphRule::KeyClash => self.sum_up_byte(how, byte),
             GraphRule::KeyNotFolded => self.lower && is_upper_case(byte),
-            GraphRule::TooMany => self.byte_passes_limit(how),
-            _ => false,
+            GraphRule::TooMany => {
+                let passes = self.byte_passes_limit(how);
+                self.sum_up_byte(how, byte);
+                passes
+            }
+            _ => {
+                self.sum_up_byte(how, byte);
+                false
+            }
         }
     }
 
-    // Adds one more call to the edges and to the room.
-    fn sum_up(&mut self, call: &'c BuilderCall) -> Result<(), AllocError>
-        ensures { OnOk result ((self.new.lower ≡ self.old.lower) × ((before : List Call) → SumsUp self.old before → SumsUp self.new (before ++ call.now ∷ []))) }
+    // Adds one more call to the edges and to the room. Answers whether an earlier edge of the same node clashes with its
+    // edge.
+    fn sum_up(&mut self, call: &'c BuilderCall) -> Result<bool, AllocError>
+        ensures lower { OnOk result (self.new.lower ≡ self.old.lower) }
+        ensures sums { OnOk result ((before : List Call) → SumsUp self.old before → SumsUp self.new (before ++ call.now ∷ [])) }
+        ensures clashes { IfOk result (λ clashes. (before : List Call) → SumsUp self.old before → clashes ≡ is_clash before call.now) }
     {
         self.room = self.room.after(call);
         match call {
-            BuilderCall::Node { .. } => self.edges = OwnEdges::new(self.alloc),
-            BuilderCall::Edge { edge, .. } => self.edges.add(edge)?,
-            _ => {}
-        }
-        Ok(())
-    }
-
-    // Whether an earlier edge of the same node clashes with the edge of a call.
-    fn is_clash(&self, call: &BuilderCall) -> bool
-        ensures { (before : List Call) → SumsUp self.now before → result ≡ is_clash_of before call.now }
-    {
-        match call {
-            BuilderCall::Edge { edge, .. } => self.edges.clashes(edge),
-            _ => false,
+            BuilderCall::Node { .. } => {
+                self.edges = OwnEdges::new(self.alloc);
+                Ok(false)
+            }
+            BuilderCall::Edge { edge, .. } => self.edges.add(edge),
+            _ => Ok(false),
         }
     }
 
-    // Whether a call adds a key or a peek byte from A to Z to a node that compares in lower case.
-    fn is_not_folded(&self, call: &BuilderCall) -> bool
-        ensures { (before : List Call) → self.now.lower ≡ is_lower before → result ≡ is_not_folded_of before call.now }
+    // Adds the edge of one more byte to the edges and to the room. Answers whether an earlier edge of the same node
+    // clashes with it.
+    fn sum_up_byte(&mut self, how: ByteUse, byte: u8) -> bool
+        ensures lower { self.new.lower ≡ self.old.lower }
+        ensures sums { (before : List Call) (target : List ℕ) → SumsUp self.old before → SumsUp self.new (before ++ byte_call how target byte ∷ []) }
+        ensures clashes { (before : List Call) (target : List ℕ) → SumsUp self.old before → result ≡ is_clash before (byte_call how target byte) }
     {
-        self.lower && has_upper_case(call)
+        self.room = self.room.after_byte();
+        self.edges.add_byte(how, byte)
     }
 
     // Whether with this call a count passes its limit.

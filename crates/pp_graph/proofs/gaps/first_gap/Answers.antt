@@ -1,7 +1,8 @@
 use Rattle.std.proofs.Common.{◌∙◌, ◌+◌, drop, length, refl, sym, subst, ap, arith}
 use Rattle.pp_graph.specs.Calls.{own_calls}
 use Rattle.pp_graph.specs.Sets.{all_calls}
-use Rattle.pp_graph.specs.Gaps.{IsLeast, IsGapFrom, FailsBelow, end_of_node}
+use Rattle.pp_graph.specs.Least.{IsLeast}
+use Rattle.pp_graph.specs.Gaps.{IsGapFrom, FailsBelow, end_of_node}
 use Rattle.pp_graph.proofs.SetLemmas.{length-sets, set-at}
 use Rattle.pp_graph.proofs.GapStepLemmas.{below-first, below-last}
 use Rattle.pp_graph.proofs.GapSetLemmas.{number-last, number-rest, number-fits, next-at, part-all, part-sets, below-call, below-node}

@@ -1,6 +1,7 @@
 use Rattle.std.proofs.Common.{◌≡◌}
 use Rattle.pp_graph.specs.Sets.{all_calls}
-use Rattle.pp_graph.specs.Gaps.{IsLeast, FailsBelow, end_of_node}
+use Rattle.pp_graph.specs.Least.{IsLeast}
+use Rattle.pp_graph.specs.Gaps.{FailsBelow, end_of_node}
 use Rattle.pp_graph.proofs.GapSetLemmas.{number_at}
 use Rattle.pp_graph.proofs.gaps.first_gap.Given as goal
 

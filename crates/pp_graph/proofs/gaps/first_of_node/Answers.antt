@@ -2,7 +2,8 @@ use Rattle.std.proofs.Common.{◌∙◌, ◌+◌, ◌<◌, ◌≤◌, ◌^◌, t
 use Rattle.std.proofs.lemmas.List.{length-take-le}
 use Rattle.pp_graph.specs.Calls.{own_calls}
 use Rattle.pp_graph.specs.Sets.{all_calls, AreSets}
-use Rattle.pp_graph.specs.Gaps.{IsLeast, IsGapAt, IsGapFrom}
+use Rattle.pp_graph.specs.Least.{IsLeast}
+use Rattle.pp_graph.specs.Gaps.{IsGapAt, IsGapFrom}
 use Rattle.pp_graph.proofs.GapLemmas.{gap-fits, gap-from}
 use Rattle.pp_graph.proofs.GapSetLemmas.{own-all, own-sets, own-few, own-fits}
 use Rattle.pp_graph.proofs.gaps.first_of_node.Goals as goal

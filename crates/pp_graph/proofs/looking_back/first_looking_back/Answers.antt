@@ -2,7 +2,7 @@ use Rattle.std.proofs.Common.{◌+◌, [], Some, take, refl, sym, subst, arith}
 use Rattle.std.specs.Prelude.{None as none}
 use Rattle.std.specs.Prelude.{IsNone}
 use Rattle.pp_graph.specs.Sets.{all_calls, spread}
-use Rattle.pp_graph.specs.Gaps.{IsLeast}
+use Rattle.pp_graph.specs.Least.{IsLeast}
 use Rattle.pp_graph.specs.Seen.{TakesIn, FailsBehind}
 use Rattle.pp_graph.proofs.LeastLemmas.{IsLeast-none}
 use Rattle.pp_graph.proofs.SetLemmas.{length-sets, set-at, all-more, number-is, number-le}

@@ -1,7 +1,7 @@
 use Rattle.std.proofs.Common.{[], take}
 use Rattle.std.specs.Prelude.{None as none}
 use Rattle.pp_graph.specs.Sets.{all_calls}
-use Rattle.pp_graph.specs.Gaps.{IsLeast}
+use Rattle.pp_graph.specs.Least.{IsLeast}
 use Rattle.pp_graph.specs.Seen.{TakesIn, FailsBehind}
 use Rattle.pp_graph.proofs.looking_back.first_looking_back.Given as goal
 

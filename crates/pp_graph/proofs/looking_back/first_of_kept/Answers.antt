@@ -3,7 +3,7 @@ use Rattle.std.specs.Prelude.{IsSomeAnd, IsNone, IfOk}
 use Rattle.pp_bytes.specs.Bytes.{bytes_of}
 use Rattle.pp_graph.specs.declared.call.BuilderCall.{BuilderCall}
 use Rattle.pp_graph.specs.Sets.{byte_call, spread, IsSetOf}
-use Rattle.pp_graph.specs.Gaps.{IsLeast}
+use Rattle.pp_graph.specs.Least.{IsLeast}
 use Rattle.pp_graph.specs.Seen.{TakesIn, FailsBehind}
 use Rattle.pp_graph.proofs.LookingBackLemmas.{spread-use}
 use Rattle.pp_graph.proofs.looking_back.first_of_kept.Goals as goal

@@ -1,7 +1,7 @@
 use Rattle.std.proofs.Common.{◌<◌, Some, length, sym, subst, arith}
 use Rattle.pp_graph.specs.Rules.{FailsAt}
 use Rattle.pp_graph.specs.Sets.{all_calls}
-use Rattle.pp_graph.specs.Gaps.{IsLeast}
+use Rattle.pp_graph.specs.Least.{IsLeast}
 use Rattle.pp_graph.specs.Seen.{IsFirstFailing}
 use Rattle.pp_graph.proofs.SetLemmas.{length-sets}
 use Rattle.pp_graph.proofs.FirstFaultLemmas.{sum-within, least-kept, least-end}

@@ -1,19 +1,24 @@
-use Rattle.std.proofs.Common.{sym, subst, refl}
-use Rattle.pp_graph.proofs.OwnEdgeLemmas.{HasMore, push-key, push-peek, push-answer, push-otherwise}
+use Rattle.std.proofs.Common.{filter_map, ap, ◌∙◌, ◌==◌, sym, subst, refl}
+use Rattle.std.proofs.Math.Bool.{not, not-not}
+use Rattle.std.specs.List.{list_any}
+use Rattle.pp_graph.specs.OwnEdges.{key_clash}
+use Rattle.pp_graph.proofs.OwnEdgeLemmas.{HasMore, Tells, clash-as-key, clash-answer, clash-otherwise, push-answer, push-otherwise}
 use Rattle.pp_graph.proofs.own_edges.OwnEdges.add.Goals as goal
 
-pub returns-in_ok-add-in-Key : goal.returns-in_ok-add-in-Key
-returns-in_ok-add-in-Key c = λ own h.
-    subst (HasMore _ own) (sym c.in-Key.is) (push-key c.args.self.now _ own c.in-Key.bytes c.in-Key.number c.items.result.now c.items.ensures c.in_ok-add-in-Key.ensures refl refl h)
+pub returns-in-Peek-clause-clashes : goal.returns-in-Peek-clause-clashes
+returns-in-Peek-clause-clashes c own h = subst (Tells c.add_peek.result own) (sym c.in-Peek.is) (c.add_peek.ensures.clashes own h)
 
-pub returns-in-Peek : goal.returns-in-Peek
-returns-in-Peek c = λ own h.
-    subst (HasMore _ own) (sym c.in-Peek.is) (push-peek c.args.self.now _ own c.in-Peek.byte refl c.add-in-Peek.ensures refl h)
+pub returns-in_ok-is_new-in-Answer-clause-added : goal.returns-in_ok-is_new-in-Answer-clause-added
+returns-in_ok-is_new-in-Answer-clause-added c own h =
+    subst (HasMore _ own) (sym c.in-Answer.is) (push-answer c.args.self.now _ own c.in-Answer.number refl refl c.in_ok-is_new-in-Answer.ensures.keys h)
 
-pub returns-in_ok-insert-in-Answer : goal.returns-in_ok-insert-in-Answer
-returns-in_ok-insert-in-Answer c = λ own h.
-    subst (HasMore _ own) (sym c.in-Answer.is) (push-answer c.args.self.now _ own c.in-Answer.number refl refl c.in_ok-insert-in-Answer.ensures.keys h)
+pub returns-in_ok-is_new-in-Answer-clause-clashes : goal.returns-in_ok-is_new-in-Answer-clause-clashes
+returns-in_ok-is_new-in-Answer-clause-clashes c own h =
+    subst (Tells (not c.in_ok-is_new-in-Answer.is_new) own) (sym c.in-Answer.is) (ap not c.in_ok-is_new-in-Answer.ensures.added ∙ not-not (list_any (λ m. c.in-Answer.number == m) c.args.self.now.answers.keys) ∙ h.answers c.in-Answer.number ∙ clash-answer own c.in-Answer.number)
 
-pub returns-in-Otherwise : goal.returns-in-Otherwise
-returns-in-Otherwise c = λ own h.
+pub returns-in-Otherwise-clause-added : goal.returns-in-Otherwise-clause-added
+returns-in-Otherwise-clause-added c own h =
     subst (HasMore c.args.self.now own) (sym c.in-Otherwise.is) (push-otherwise c.args.self.now c.args.self.now own c.in-Otherwise.skip refl h)
+
+pub returns-in-Otherwise-clause-clashes : goal.returns-in-Otherwise-clause-clashes
+returns-in-Otherwise-clause-clashes c own h = subst (Tells _ own) (sym c.in-Otherwise.is) (clash-otherwise own c.in-Otherwise.skip)

@@ -1,13 +1,11 @@
-use Rattle.std.proofs.Common.{false, ap, sym, ◌∙◌}
-use Rattle.std.proofs.lemmas.List.Sums.{fold_push}
-use Rattle.std.proofs.lemmas.Result.{on_ok_weaker}
-use Rattle.pp_graph.specs.Rules.{lower_after}
+use Rattle.std.proofs.Common.{ap, sym, ◌∙◌}
+use Rattle.pp_graph.proofs.SeenLemmas.{takes-one}
 use Rattle.pp_graph.proofs.seen.Seen.add.Goals as goal
 
-pub returns-in_default : goal.returns-in_default
-returns-in_default c =
-    let call = c.args.call.now in
-    on_ok_weaker c.sum_up.result (λ summed before h. record {
-      lower = summed.0 ∙ (c.lower_after-self.ensures ∙ (ap (λ lower. lower_after lower call) h.lower ∙ sym (fold_push lower_after false before call)));
-      sums = λ other. summed.1 before (record { edges = (h.sums other).edges; room = (h.sums other).room });
-    }) c.sum_up.ensures
+pub returns-in_ok-sum_up-in-TooMany-clause-taken : goal.returns-in_ok-sum_up-in-TooMany-clause-taken
+returns-in_ok-sum_up-in-TooMany-clause-taken c before h =
+    takes-one c.args.rule c.args.self.now c.sum_up-in-TooMany.new.self before c.args.call.now (c.in_ok-sum_up-in-TooMany.ensures.lower ∙ c.lower_after-self.ensures) (λ s. c.in_ok-sum_up-in-TooMany.ensures.sums before (record { edges = s.edges; room = s.room })) h
+
+pub returns-in_ok-sum_up-in_default-clause-taken : goal.returns-in_ok-sum_up-in_default-clause-taken
+returns-in_ok-sum_up-in_default-clause-taken c before h =
+    takes-one c.args.rule c.args.self.now c.sum_up-in_default.new.self before c.args.call.now (c.in_ok-sum_up-in_default.ensures.lower ∙ c.lower_after-self.ensures) (λ s. c.in_ok-sum_up-in_default.ensures.sums before (record { edges = s.edges; room = s.room })) h

@@ -1,15 +1,21 @@
-use Rattle.std.proofs.Common.{false, refl, sym, ◌∙◌}
-use Rattle.std.proofs.lemmas.List.Sums.{fold_push}
-use Rattle.pp_graph.specs.Rules.{lower_after}
-use Rattle.pp_graph.specs.Sets.{byte_call, byte_edge}
-use Rattle.pp_graph.proofs.SeenLemmas.{push-edge}
+use Rattle.std.proofs.Common.{ap, sym, ◌∙◌}
+use Rattle.pp_graph.specs.Sets.{byte_call}
+use Rattle.pp_graph.specs.Seen.{fails_back}
+use Rattle.pp_graph.proofs.SeenLemmas.{takes-one}
 use Rattle.pp_graph.proofs.seen.Seen.add_byte.Goals as goal
 
-pub returns-in_default : goal.returns-in_default
-returns-in_default c = λ before target h.
-    let edge = byte_call c.args.how target c.args.byte in
-    record {
-      lower = h.lower ∙ sym (fold_push lower_after false before edge);
-      sums = λ other.
-          push-edge c.args.self.now _ before edge (byte_edge c.args.how c.args.byte) target refl c.add_byte.ensures (c.after_byte-self.ensures before c.args.how target c.args.byte (h.sums other).room) (h.sums other);
-    }
+pub returns-in-KeyClash-clause-fails : goal.returns-in-KeyClash-clause-fails
+returns-in-KeyClash-clause-fails c before target h =
+    c.sum_up_byte.ensures.clashes before target (h.sums (λ same. cc)) ∙ ap (λ rule. fails_back rule before (byte_call c.args.how target c.args.byte)) (sym c.in-KeyClash.is)
+
+pub returns-in-TooMany-clause-taken : goal.returns-in-TooMany-clause-taken
+returns-in-TooMany-clause-taken c before target h =
+    takes-one c.args.rule c.args.self.now c.sum_up_byte-in-TooMany.new.self before (byte_call c.args.how target c.args.byte) c.sum_up_byte-in-TooMany.ensures.lower (c.sum_up_byte-in-TooMany.ensures.sums before target) h
+
+pub returns-in-TooMany-clause-fails : goal.returns-in-TooMany-clause-fails
+returns-in-TooMany-clause-fails c before target h =
+    c.byte_passes_limit-passes.ensures before target c.args.byte (h.sums (λ same. cc)) ∙ ap (λ rule. fails_back rule before (byte_call c.args.how target c.args.byte)) (sym c.in-TooMany.is)
+
+pub returns-in_default-clause-taken : goal.returns-in_default-clause-taken
+returns-in_default-clause-taken c before target h =
+    takes-one c.args.rule c.args.self.now c.sum_up_byte-in_default.new.self before (byte_call c.args.how target c.args.byte) c.sum_up_byte-in_default.ensures.lower (c.sum_up_byte-in_default.ensures.sums before target) h
