@@ -32,6 +32,14 @@ impl<'c> KeySet<'c> {
         }
     }
 
+    /// Makes room for so many more keys.
+    pub(crate) fn reserve(&mut self, count: usize) -> Result<(), AllocError>
+        ensures { OnOk result ((keys : List (List ℕ)) → HasKeys self.old keys → HasKeys self.new keys) }
+    {
+        self.whole.reserve(count)?;
+        Ok(())
+    }
+
     /// Adds a key, which may be there already. Answers whether it was.
     pub(crate) fn add(&mut self, key: &'c [u8]) -> Result<bool, AllocError>
         ensures added { OnOk result ((keys : List (List ℕ)) → HasKeys self.old keys → HasKeys self.new (keys ++ key.now ∷ [])) }

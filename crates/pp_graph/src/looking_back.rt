@@ -1,5 +1,5 @@
 // The rules that look back from a call: at the edges of its node so far, and at the counts.
-ghost use Rattle.std.specs.Prelude.{◌<◌, ◌^◌, ◌++◌, ◌∷◌, ℕ, List, [], length, map, IsNone, IfOk};
+ghost use Rattle.std.specs.Prelude.{◌<◌, ◌^◌, ◌++◌, ◌∷◌, ℕ, List, [], length, map, IsNone, IfOk, OnOk};
 ghost use Rattle.pp_bytes.specs.Bytes.{bytes_of};
 ghost use Rattle.pp_graph.specs.declared.call.BuilderCall.{BuilderCall as Call};
 ghost use Rattle.pp_graph.specs.Rules.{FailsAt};
@@ -9,6 +9,7 @@ ghost use Rattle.pp_graph.specs.Seen.{TakesIn, LooksBack, FailsBehind};
 
 use crate::call::BuilderCall;
 use crate::calls::{ByteUse, number_of, use_of};
+use crate::edges::is_node;
 use crate::fault::GraphRule;
 use crate::seen::Seen;
 use pp_bytes::ByteSet;
@@ -31,8 +32,24 @@ pub(crate) fn first_looking_back(
         if let Some(rank) = first_of_kept(rule, &mut seen, &calls[i], &sets[i])? {
             return Ok(Some(number_of(sets, i) + rank));
         }
+        make_room(rule, &mut seen, &calls[i], &calls[i + 1..])?;
     }
     Ok(None)
+}
+
+// Behind a node, makes room for what a rule asks of the calls that belong to it, which are the first of those after it.
+fn make_room(
+    rule: GraphRule,
+    seen: &mut Seen<'_>,
+    call: &BuilderCall,
+    after: &[BuilderCall],
+) -> Result<(), AllocError>
+    ensures { OnOk result ((before : List Call) → TakesIn rule seen.old before → TakesIn rule seen.new before) }
+{
+    if is_node(call) {
+        seen.expect(rule, after)?;
+    }
+    Ok(())
 }
 
 // The rank of the first call at which such a rule fails, of those that a kept one stands for; where there is none, all

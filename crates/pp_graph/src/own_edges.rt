@@ -34,6 +34,13 @@ impl<'c> OwnEdges<'c> {
         }
     }
 
+    /// Makes room for so many more keys.
+    pub(crate) fn reserve_keys(&mut self, count: usize) -> Result<(), AllocError>
+        ensures { OnOk result ((own : List Edge) → HasEdges self.old own → HasEdges self.new own) }
+    {
+        self.keys.reserve(count)
+    }
+
     /// Adds an edge. Answers whether one of those before clashes with it.
     pub(crate) fn add(&mut self, edge: &'c NamedEdge) -> Result<bool, AllocError>
         ensures added { OnOk result ((own : List Edge) → HasEdges self.old own → HasEdges self.new (own ++ edge.now ∷ [])) }

@@ -8,7 +8,7 @@ ghost use Rattle.pp_graph.specs.Rules.{is_clash, passes_limit as passes_limit_of
 
 use crate::call::{BuilderCall, NamedEdge, NamedKind};
 use crate::calls::ByteUse;
-use crate::edges::{has_upper_case, is_upper_case};
+use crate::edges::{has_upper_case, is_upper_case, own_calls};
 use crate::fault::GraphRule;
 use crate::own_edges::OwnEdges;
 use crate::room::Room;
@@ -35,6 +35,24 @@ impl<'c> Seen<'c> {
             edges: OwnEdges::new(alloc),
             lower: false,
             room: Room::new(),
+        }
+    }
+
+    /// Makes room for the keys of the present node, where a rule asks for them, by the calls behind the node. One of those
+    /// that belong to it is its otherwise, so that a node with nothing else takes no memory.
+    pub(crate) fn expect(
+        &mut self,
+        rule: GraphRule,
+        after: &[BuilderCall],
+    ) -> Result<(), AllocError>
+        ensures { OnOk result ((before : List Call) → TakesIn rule self.old before → TakesIn rule self.new before) }
+    {
+        match rule {
+            GraphRule::KeyClash => {
+                let count = own_calls(after).len().saturating_sub(1);
+                self.edges.reserve_keys(count)
+            }
+            _ => Ok(()),
         }
     }
 

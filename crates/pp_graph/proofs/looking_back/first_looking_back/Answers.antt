@@ -45,7 +45,7 @@ loop-i-preserved c =
     let kept : IsLeast (FailsBehind c.args.rule first few) none = subst (IsLeast (FailsBehind c.args.rule first few)) c.in_default.is (c.in_ok-rank.ensures.fails first c.loop-i.invariant.0) in
     let more = all-more c.args.calls.now c.args.sets.now c.loop-i.i c.index-calls-i.result c.index-sets-i.result c.requires.sets (omega arith) c.index-calls-i.is c.index-sets-i.is in
     let nowhere : IsNone c.in_ok-rank.field-0 = subst IsNone (sym c.in_default.is) refl in
-    (subst (TakesIn c.args.rule c.first_of_kept.new.seen) (sym more) (c.in_ok-rank.ensures.taken nowhere first c.loop-i.invariant.0), sets-kept c.args.rule c.args.calls.now c.args.sets.now c.loop-i.i c.index-calls-i.result c.index-sets-i.result c.requires.sets (omega arith) c.index-calls-i.is c.index-sets-i.is c.loop-i.invariant.1 kept)
+    (subst (TakesIn c.args.rule c.make_room.new.seen) (sym more) (c.in_ok-make_room.ensures _ (c.in_ok-rank.ensures.taken nowhere first c.loop-i.invariant.0)), sets-kept c.args.rule c.args.calls.now c.args.sets.now c.loop-i.i c.index-calls-i.result c.index-sets-i.result c.requires.sets (omega arith) c.index-calls-i.is c.index-sets-i.is c.loop-i.invariant.1 kept)
 
 pub returns : goal.returns
 returns c =
