@@ -10,7 +10,6 @@ use Rattle.pp_graph.specs.declared.call.NamedEdge.{NamedEdge}
 use Rattle.pp_graph.specs.declared.call.BuilderCall.{BuilderCall}
 use Rattle.pp_graph.specs.declared.call.BuilderCall.TheVariants as call
 use Rattle.pp_graph.specs.declared.fault.GraphRule.{GraphRule}
-use Rattle.pp_graph.specs.declared.fault.GraphRule.TheVariants.{KeyNotFolded}
 use Rattle.pp_graph.specs.declared.seen.Seen.{Seen}
 use Rattle.pp_graph.specs.Calls.{since_after, since_node}
 use Rattle.pp_graph.specs.Rules.{edge_of, edges_of, lower_after}

@@ -1,8 +1,7 @@
-use Rattle.std.proofs.Common.{filter_map, ap, ◌∙◌, ◌==◌, sym, subst, refl}
+use Rattle.std.proofs.Common.{ap, ◌∙◌, ◌==◌, sym, subst, refl}
 use Rattle.std.proofs.Math.Bool.{not, not-not}
 use Rattle.std.specs.List.{list_any}
-use Rattle.pp_graph.specs.OwnEdges.{key_clash}
-use Rattle.pp_graph.proofs.OwnEdgeLemmas.{HasMore, Tells, clash-as-key, clash-answer, clash-otherwise, push-answer, push-otherwise}
+use Rattle.pp_graph.proofs.OwnEdgeLemmas.{HasMore, Tells, clash-answer, clash-otherwise, push-answer, push-otherwise}
 use Rattle.pp_graph.proofs.own_edges.OwnEdges.add.Goals as goal
 
 pub returns-in-Peek-clause-clashes : goal.returns-in-Peek-clause-clashes

@@ -1,4 +1,4 @@
-use Rattle.std.proofs.Common.{ap, sym, ◌∙◌}
+use Rattle.std.proofs.Common.{◌∙◌}
 use Rattle.pp_graph.proofs.SeenLemmas.{takes-one}
 use Rattle.pp_graph.proofs.seen.Seen.add.Goals as goal
 

@@ -1,4 +1,4 @@
-use Rattle.std.proofs.Common.{refl, ap, sym, ◌∙◌, subst}
+use Rattle.std.proofs.Common.{refl, ap, sym, ◌∙◌}
 use Rattle.std.proofs.lemmas.Result.{on_ok_weaker, IfOk-weaker}
 use Rattle.pp_graph.specs.Rules.{edges_of, edge_of, clashes_with_any}
 use Rattle.pp_graph.proofs.SeenLemmas.{push-node, push-edge, push-other}
