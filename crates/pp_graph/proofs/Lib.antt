@@ -18,6 +18,8 @@ pub mod WellFormedLemmas
 pub mod LeastLemmas
 pub mod KeyLemmas
 pub mod BeginLemmas
+pub mod NumberLemmas
+pub mod HeadLemmas
 pub mod SortedKeyLemmas
 pub mod KnownLemmas
 pub mod KeyTableLemmas
