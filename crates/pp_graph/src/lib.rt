@@ -9,6 +9,7 @@ mod edges;
 mod fault;
 mod gaps;
 mod graph;
+mod head;
 mod key_set;
 mod keys;
 mod looking_back;
