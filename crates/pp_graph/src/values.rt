@@ -56,11 +56,11 @@ impl<'c> Values<'c> {
         &self.declared
     }
 
-    // Whether some node of this name is an invoke of signature value.
+    // Whether some node of this name is an invoke of signature value. Mostly there is none, and no name need be hashed.
     fn is_value_node(&self, name: &Name) -> bool
         ensures { result ≡ is_value_node_of self.now name.now }
     {
-        self.value_nodes.contains(name)
+        !self.value_nodes.is_empty() && self.value_nodes.contains(name)
     }
 
     // Whether some node of this name stores into a property which can't hold the number.
