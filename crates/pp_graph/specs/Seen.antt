@@ -1,5 +1,5 @@
 -- What calls add up to, for the rules that look back.
-use Rattle.std.specs.Prelude.{◌≡◌, ◌≢◌, ℕ, ◌+◌, ◌<◌, ◌||◌, ◌++◌, List, Bool, false, Option, Some, IsTrue, IsSomeAnd, slice_get, take, length, nat_le, nat_lt, sum_by}
+use Rattle.std.specs.Prelude.{◌≡◌, ◌≢◌, ℕ, ◌+◌, ◌<◌, ◌||◌, ◌++◌, ◌==◌, not, List, Bool, false, Option, Some, IsTrue, IsSomeAnd, slice_get, take, length, nat_le, nat_lt, sum_by}
 use Rattle.std.specs.Prelude.{None as none}
 use Rattle.pp_graph.specs.declared.call.BuilderCall.{BuilderCall}
 use Rattle.pp_graph.specs.declared.fault.GraphRule.{GraphRule}
@@ -7,6 +7,7 @@ use Rattle.pp_graph.specs.declared.fault.GraphRule.TheVariants.{DuplicateName, U
 use Rattle.pp_graph.specs.declared.seen.Seen.{Seen}
 use Rattle.pp_graph.specs.Calls.{since_node}
 use Rattle.pp_graph.specs.Rules.{edges_of, keys_of, is_lower, weight_of_call, is_clash, is_not_folded, passes_limit, FailsAt}
+use Rattle.pp_graph.specs.Gaps.{key_of}
 use Rattle.pp_graph.specs.OwnEdges.{HasEdges}
 use Rattle.pp_graph.specs.Room.{HasRoom}
 
@@ -90,3 +91,12 @@ IsFirstFailing rule calls (Some i) = (i < length calls) × FailsAt rule calls i 
 -- such a rule fails at the call of this rank among a few, behind those before them
 abbrev pub FailsBehind : GraphRule → List BuilderCall → List BuilderCall → ℕ → Type 0
 FailsBehind rule before few k = IsSomeAnd (slice_get few k) (λ c. IsTrue (fails_back rule (before ++ take k few) c))
+
+-- there is a key, of none or of several bytes
+abbrev pub is_longer : Option (List ℕ) → Bool
+is_longer none = false
+is_longer (Some key) = not (length key == 1)
+
+-- a call adds such a key
+abbrev pub adds_longer_key : BuilderCall → Bool
+adds_longer_key c = is_longer (key_of c)

@@ -1,9 +1,9 @@
 // What the calls before the present one add up to.
-ghost use Rattle.std.specs.Prelude.{◌≡◌, ℕ, List, [], ◌∷◌, ◌++◌, IfOk, OnOk};
+ghost use Rattle.std.specs.Prelude.{◌≡◌, ℕ, List, [], ◌∷◌, ◌++◌, count_by, IfOk, OnOk};
 ghost use Rattle.pp_graph.specs.declared.call.BuilderCall.{BuilderCall as Call};
 ghost use Rattle.pp_graph.specs.declared.fault.GraphRule.{GraphRule as Rule};
 ghost use Rattle.pp_graph.specs.Sets.{byte_call};
-ghost use Rattle.pp_graph.specs.Seen.{SumsUp, TakesIn, fails_back, key_passes_limit as key_passes_limit_of};
+ghost use Rattle.pp_graph.specs.Seen.{SumsUp, TakesIn, adds_longer_key, fails_back, key_passes_limit as key_passes_limit_of};
 ghost use Rattle.pp_graph.specs.Rules.{is_clash, passes_limit as passes_limit_of, edge_passes_limit as edge_passes_limit_of, is_lower, lower_after as lower_after_of, lower_kind};
 
 use crate::call::{BuilderCall, NamedEdge, NamedKind};
@@ -38,8 +38,7 @@ impl<'c> Seen<'c> {
         }
     }
 
-    /// Makes room for the keys of the present node, where a rule asks for them, by the calls behind the node. One of those
-    /// that belong to it is its otherwise, so that a node with nothing else takes no memory.
+    /// Makes room for the keys of the present node, where a rule asks for them, by the calls behind the node.
     pub(crate) fn expect(
         &mut self,
         rule: GraphRule,
@@ -48,10 +47,7 @@ impl<'c> Seen<'c> {
         ensures { OnOk result ((before : List Call) → TakesIn rule self.old before → TakesIn rule self.new before) }
     {
         match rule {
-            GraphRule::KeyClash => {
-                let count = own_calls(after).len().saturating_sub(1);
-                self.edges.reserve_keys(count)
-            }
+            GraphRule::KeyClash => self.edges.reserve_keys(longer_keys(own_calls(after))),
             _ => Ok(()),
         }
     }
@@ -165,6 +161,31 @@ impl<'c> Seen<'c> {
         ensures { (before : List Call) → SumsUp self.now before → result ≡ key_passes_limit_of before len }
     {
         64 < len || self.edges.keys.is_full() || self.room.weight <= len
+    }
+}
+
+// How many calls add a key of none or of several bytes.
+fn longer_keys(own: &[BuilderCall]) -> usize
+    ensures { result ≡ count_by adds_longer_key own.now }
+{
+    let mut count = 0;
+    for call in own {
+        if is_longer_key(call) {
+            count += 1;
+        }
+    }
+    count
+}
+
+fn is_longer_key(call: &BuilderCall) -> bool
+    ensures { result ≡ adds_longer_key call.now }
+{
+    match call {
+        BuilderCall::Edge {
+            edge: NamedEdge::Key { bytes, .. },
+            ..
+        } => bytes.items().len() != 1,
+        _ => false,
     }
 }
 
