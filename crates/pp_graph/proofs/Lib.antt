@@ -6,7 +6,7 @@ pub mod RuleLemmas
 pub mod TableLemmas
 pub mod EachLemmas
 pub mod NameLemmas
-pub mod LookupLemmas
+pub mod NameTableLemmas
 pub mod PlaceLemmas
 pub mod SoundLemmas
 pub mod SortLemmas
@@ -25,9 +25,12 @@ pub mod KnownLemmas
 pub mod KeyTableLemmas
 pub mod StandLemmas
 pub mod LineLemmas
+pub mod NodeLemmas
+pub mod NodeStepLemmas
+pub mod NodeSetLemmas
 pub mod GapLemmas
-pub mod GapStepLemmas
-pub mod GapSetLemmas
+pub mod AgainLemmas
+pub mod ClashLemmas
 pub mod SetLemmas
 pub mod LookingBackLemmas
 pub mod AllCallsLemmas

@@ -18,7 +18,7 @@ use Rattle.pp_graph.specs.declared.seen.Seen.{Seen}
 use Rattle.pp_graph.specs.Rules.{fails, fails_at_end, fails_at_call, FailsAt}
 use Rattle.pp_graph.specs.Sets.{byte_call, spread, all_calls, IsSetOf, AreSets, size_of}
 use Rattle.pp_graph.specs.Least.{IsLeast}
-use Rattle.pp_graph.specs.Seen.{TakesIn, LooksBack, FailsBehind, fails_back}
+use Rattle.pp_graph.specs.Seen.{TakesIn, IsToldBack, FailsBehind, fails_back}
 use Rattle.pp_graph.proofs.LeastLemmas.{IsLeast-none, IsLeast-some, IsLeast-same, IsLeast-image}
 use Rattle.pp_graph.proofs.SetLemmas.{spread-set, length-sets, all-more, all-split, all-drop, number-is}
 
@@ -26,12 +26,12 @@ use Rattle.pp_graph.proofs.SetLemmas.{spread-set, length-sets, all-more, all-spl
 abbrev AsksBefore : GraphRule → Type 0
 AsksBefore rule = ((all before : List BuilderCall) (c : BuilderCall) (after : List BuilderCall) → fails rule all before c after ≡ fails_back rule before c) × ((all : List BuilderCall) → fails_at_end rule all ≡ false)
 
-asks-before : (rule : GraphRule) → LooksBack rule → AsksBefore rule
+asks-before : (rule : GraphRule) → IsToldBack rule → AsksBefore rule
 asks-before DuplicateName h = absurd h
 asks-before UnknownName h = absurd h
 asks-before NoEntry h = absurd h
 asks-before NoOtherwise h = absurd h
-asks-before KeyClash h = (λ all before c after. refl, λ all. refl)
+asks-before KeyClash h = absurd h
 asks-before PrefixGap h = absurd h
 asks-before ValueTarget h = absurd h
 asks-before ValueTooWide h = absurd h
@@ -54,8 +54,8 @@ from-with : (rule : GraphRule) (all : List BuilderCall) (p : ℕ) (s : Option Bu
 from-with rule all p none asks h = absurd h
 from-with rule all p (Some c) asks h = asks.0 all (take p all) c (drop (suc p) all) ∙ h
 
--- among all calls it fails as among a few behind none
-pub least-of-all : (rule : GraphRule) (all : List BuilderCall) (found : Option ℕ) → LooksBack rule → IsLeast (FailsBehind rule [] all) found → IsLeast (FailsAt rule all) found
+-- among all calls such a rule fails as among a few behind none
+pub least-of-all : (rule : GraphRule) (all : List BuilderCall) (found : Option ℕ) → IsToldBack rule → IsLeast (FailsBehind rule [] all) found → IsLeast (FailsAt rule all) found
 least-of-all rule all found h =
     let asks = asks-before rule h in
     IsLeast-same (FailsBehind rule [] all) (FailsAt rule all) found (λ p. from-with rule all p (slice_get all p) asks) (λ p. to-with rule all p (slice_get all p) asks)

@@ -1,4 +1,4 @@
--- What calls declare, and the tables of its names.
+-- What calls declare, and the lists of its names.
 use Rattle.std.proofs.Common.{◌≡◌, ℕ, ◌≤◌, List, [], ◌∷◌, ◌++◌, Bool, true, false, ◌||◌, cond, if◌then◌else◌, nat_lt, length, fold, position, Some, refl, sym, ap, ◌∙◌, subst, arith}
 use Rattle.std.specs.Prelude.{bytes_eq}
 use Rattle.std.specs.Prelude.{None as none}
@@ -50,7 +50,7 @@ any-fold f p step t [] = sym (or_false (f t))
 any-fold f p step t (c ∷ calls) =
     any-fold f p step (with_call t c) calls ∙ ap (λ b. b || list_any p calls) (step t c) ∙ or_assoc (f t) (p c) (list_any p calls)
 
--- the tables tell what is declared
+-- the lists tell what is declared
 prop-step : (name : List ℕ) (t : NameLists) (c : BuilderCall) → is_among (with_call t c).props name ≡ (is_among t.props name || is_declared_by sort.Prop name (declared_by c))
 prop-step name t (call.Prop other width) = is_among-with_name t.props other name
 prop-step name t c = sym (or_false (is_among t.props name))
@@ -67,18 +67,6 @@ node-step : (name : List ℕ) (t : NameLists) (c : BuilderCall) → is_among (wi
 node-step name t (call.Node other what) = is_among-with_name t.nodes other name
 node-step name t c = sym (or_false (is_among t.nodes name))
 
-or_true : (b : Bool) → true ≡ (b || true)
-or_true true = refl
-or_true false = refl
-
-entry-step : (t : NameLists) (c : BuilderCall) → (with_call t c).entry ≡ (t.entry || is_declared_by sort.Entry [] (declared_by c))
-entry-step t (call.Entry node) = or_true t.entry
-entry-step t c = sym (or_false t.entry)
-
-finish-step : (t : NameLists) (c : BuilderCall) → (with_call t c).finish ≡ (t.finish || is_declared_by sort.Finish [] (declared_by c))
-finish-step t (call.Finish prop host) = or_true t.finish
-finish-step t c = sym (or_false t.finish)
-
 pub props-declared : (calls : List BuilderCall) (name : List ℕ) → is_among (names_in calls).props name ≡ is_declared calls (sort.Prop, name)
 props-declared calls name = any-fold (λ t. is_among t.props name) _ (prop-step name) no_names calls
 
@@ -90,9 +78,3 @@ spans-declared calls name = any-fold (λ t. is_among t.spans name) _ (span-step 
 
 pub nodes-declared : (calls : List BuilderCall) (name : List ℕ) → is_among (names_in calls).nodes name ≡ is_declared calls (sort.Node, name)
 nodes-declared calls name = any-fold (λ t. is_among t.nodes name) _ (node-step name) no_names calls
-
-pub entry-declared : (calls : List BuilderCall) → (names_in calls).entry ≡ is_declared calls (sort.Entry, [])
-entry-declared calls = any-fold (λ t. t.entry) _ entry-step no_names calls
-
-pub finish-declared : (calls : List BuilderCall) → (names_in calls).finish ≡ is_declared calls (sort.Finish, [])
-finish-declared calls = any-fold (λ t. t.finish) _ finish-step no_names calls

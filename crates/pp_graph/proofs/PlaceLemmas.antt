@@ -1,4 +1,4 @@
--- Where no name of a sort is declared twice, the tables have the names as they were declared.
+-- Where no name of a sort is declared twice, the lists have the names as they were declared.
 use Rattle.std.proofs.Common.{◌≡◌, ℕ, ◌+◌, ◌^◌, ◌<◌, ◌≤◌, List, [], ◌∷◌, ◌++◌, Bool, true, false, length, Option, Some, refl, sym, ap, ◌∙◌, subst, arith, append_assoc}
 use Rattle.std.specs.Prelude.{None as none}
 use Rattle.std.specs.List.{cons_option}
@@ -43,7 +43,7 @@ node-step before (call.Node name what) h =
     new-name (names_in before).nodes name (is_among (names_in before).nodes name) refl (nodes-declared before name ∙ h)
 node-step before c h = sym (append-nil (names_in before).nodes)
 
--- what each call adds to a table and to the names, all add
+-- what each call adds to a list and to the names, all add
 module _ (table : NameLists → List (List ℕ)) (s : Sort) (step : (before : List BuilderCall) (c : BuilderCall) → is_duplicate before c ≡ false → table (with_call (names_in before) c) ≡ table (names_in before) ++ cons_option (name_if s (declared_by c)) []) where
   one-more : (before : List BuilderCall) (c : BuilderCall) → is_duplicate before c ≡ false → table (names_in before) ≡ names_of s before → table (names_in (before ++ c ∷ [])) ≡ names_of s (before ++ c ∷ [])
   one-more before c new h =

@@ -1,6 +1,8 @@
 -- Where a rule fails: at a call inside the list, and at its end.
-use Rattle.std.proofs.Common.{◌≡◌, ℕ, ◌+◌, ◌<◌, suc, List, [], ◌∷◌, ◌++◌, Bool, true, false, ◌==◌, length, slice_get, take, drop, get_or, Some, refl, ap, sym, inl, inr, ◌∙◌, subst, arith, add-one}
+use Rattle.std.proofs.Common.{◌≡◌, ℕ, ◌+◌, ◌<◌, suc, List, [], ◌∷◌, ◌++◌, Bool, true, false, ◌==◌, length, slice_get, take, drop, get_or, Option, Some, refl, ap, sym, inl, inr, ◌∙◌, subst, arith, add-one}
 use Rattle.std.specs.Prelude.{None as none}
+use Rattle.std.specs.Bool.{then_some}
+use Rattle.std.specs.Option.{option_or}
 use Rattle.std.proofs.lemmas.Option.{slice_get_read, slice_get_past}
 use Rattle.std.proofs.lemmas.List.{take_at}
 use Rattle.std.proofs.lemmas.Bool.{false≢true, cases_lt}
@@ -8,6 +10,7 @@ use Rattle.std.proofs.lemmas.Bool.Decides.{nat_tests}
 use Rattle.pp_graph.specs.declared.call.BuilderCall.{BuilderCall}
 use Rattle.pp_graph.specs.declared.fault.GraphRule.{GraphRule}
 use Rattle.pp_graph.specs.Rules.{fails, fails_at, fails_at_end, FailsAt, Keeps}
+use Rattle.pp_graph.specs.Seen.{IsFirstAmong}
 
 -- at the call of a number
 pub fails_at-within : (rule : GraphRule) (calls : List BuilderCall) (i : ℕ) (c : BuilderCall) → i < length calls → c ≡ get_or calls i c → fails_at rule calls i ≡ fails rule calls (take i calls) c (drop (i + 1) calls)
@@ -24,6 +27,12 @@ kept-more rule calls i e before j h f =
           let same : j ≡ i = omega arith in
           false≢true (sym e ∙ (ap (fails_at rule calls) (sym same) ∙ f))
     ]
+
+-- the first of so many calls at which a rule fails, with one call more
+pub first-more : (rule : GraphRule) (calls : List BuilderCall) (i : ℕ) (found : Option ℕ) (there : Bool) → fails_at rule calls i ≡ there → IsFirstAmong rule calls i found → IsFirstAmong rule calls (i + 1) (option_or found (then_some there i))
+first-more rule calls i none true e before = (omega arith, e, before)
+first-more rule calls i none false e before = kept-more rule calls i e before
+first-more rule calls i (Some k) there e (low, fails, before) = (omega arith, fails, before)
 
 -- the call behind these
 pub slice_get-split : (before : List BuilderCall) (c : BuilderCall) (after : List BuilderCall) → slice_get (before ++ c ∷ after) (length before) ≡ Some c

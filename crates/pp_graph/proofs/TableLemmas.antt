@@ -1,14 +1,10 @@
--- Tables of names: names that differ, and the place of one among them.
-use Rattle.std.proofs.Common.{◌≡◌, ◌≢◌, ℕ, ◌+◌, ◌<◌, ◌≤◌, suc, zero, List, [], ◌∷◌, ◌++◌, Bool, true, false, not, cond, length, slice_get, get_or, Some, refl, sym, ◌∙◌, subst, arith}
+-- Names: the place of one among others.
+use Rattle.std.proofs.Common.{◌≡◌, ℕ, ◌+◌, ◌<◌, suc, zero, List, [], ◌∷◌, Bool, true, false, not, cond, length, slice_get, Some, refl, sym, ◌∙◌, subst, arith}
 use Rattle.std.specs.Prelude.{bytes_eq}
 use Rattle.std.specs.List.{list_any}
 use Rattle.std.proofs.lemmas.Bool.{false≢true}
 use Rattle.std.proofs.lemmas.Bool.Decides.{same_from_decides, Decides-like}
-use Rattle.std.proofs.lemmas.List.{length_push}
-use Rattle.std.proofs.lemmas.List.Folds.{list_any_at}
-use Rattle.std.proofs.lemmas.List.Quantifiers.{all_pairs_push}
 use Rattle.std.proofs.lemmas.Slice.Eq.{bytes_eq-Decides}
-use Rattle.pp_graph.specs.Plan.{AreDistinct}
 use Rattle.pp_graph.specs.Built.{place_of}
 
 -- it holds of each element
@@ -25,23 +21,6 @@ each-at P (y ∷ ys) s (suc i) x e = each-at P ys s.1 i x e
 -- whether one of these names is equal to the name
 abbrev pub has_name : List (List ℕ) → List ℕ → Bool
 has_name names name = list_any (λ (other : List ℕ). bytes_eq other name) names
-
--- names that differ, at most so many
-pub record IsTable (limit : ℕ) (names : List (List ℕ)) : Type 0 where
-  pub distinct : AreDistinct names
-  pub few : length names ≤ limit
-
-pub IsTable-nil : (limit : ℕ) → IsTable limit []
-IsTable-nil limit = record { distinct = λ i j d p q. absurd (omega arith); few = omega arith }
-
--- one more name, which none of them is equal to
-pub IsTable-push : (limit : ℕ) (names : List (List ℕ)) (name : List ℕ) → IsTable limit names → has_name names name ≡ false → length names < limit → IsTable limit (names ++ name ∷ [])
-IsTable-push limit names name t new room =
-    let test : List ℕ → Bool = λ other. bytes_eq other name in
-    record {
-      distinct = all_pairs_push ◌≢◌ names name t.distinct (λ k d h e. false≢true (sym new ∙ list_any_at test names k d h ((bytes_eq-Decides (get_or names k d) name).1 e)));
-      few = omega (arith, length_push names name);
-    }
 
 -- equality of bytes goes both ways
 pub bytes_eq-comm : (a b : List ℕ) → bytes_eq a b ≡ bytes_eq b a

@@ -1,5 +1,5 @@
 -- The least number of which a fact holds.
-use Rattle.std.specs.Prelude.{ℕ, ◌≤◌, min, Option, Some, IfSome, IsSomeAnd}
+use Rattle.std.specs.Prelude.{◌≡◌, ℕ, ◌+◌, ◌≤◌, min, Option, Some, IfSome, IsSomeAnd}
 use Rattle.std.specs.Prelude.{None as none}
 
 -- the least number of which the fact holds, or none where it holds of no number
@@ -12,3 +12,7 @@ abbrev pub lesser : Option ℕ → Option ℕ → Option ℕ
 lesser none b = b
 lesser (Some i) none = Some i
 lesser (Some i) (Some j) = Some (min i j)
+
+-- a fact of numbers that count from this start
+abbrev pub IsFrom : (ℕ → Type 0) → ℕ → ℕ → Type 0
+IsFrom P start m = (j : ℕ) × P j × (m ≡ start + j)

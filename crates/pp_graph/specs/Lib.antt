@@ -10,9 +10,13 @@ pub mod Rules
 pub mod Room
 pub mod OwnKeys
 pub mod OwnEdges
+pub mod Clashes
 pub mod Seen
 pub mod Least
 pub mod Gaps
+pub mod ByNode
+pub mod KeyFaults
 pub mod KeyTables
+pub mod NameTables
 pub mod Lookups
 pub mod Sets

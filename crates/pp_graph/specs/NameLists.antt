@@ -1,21 +1,20 @@
 -- The names that calls declare, each once, in the order of their first declarations.
-use Rattle.std.specs.Prelude.{ℕ, List, [], Bool, true, false, fold, bytes_eq}
+use Rattle.std.specs.Prelude.{ℕ, List, [], Bool, fold, bytes_eq}
 use Rattle.std.specs.List.{list_any}
 use Rattle.indexmap.specs.IndexSet.{insert_key}
 use Rattle.pp_graph.specs.declared.call.BuilderCall.{BuilderCall}
 use Rattle.pp_graph.specs.declared.call.BuilderCall.TheVariants as call
 
--- the names of each sort, and whether the entry and the finish rule are declared
+-- the names of each sort
 pub record NameLists : Type 0 where
   pub props : List (List ℕ)
   pub hosts : List (List ℕ)
   pub spans : List (List ℕ)
   pub nodes : List (List ℕ)
-  pub entry : Bool
-  pub finish : Bool
 
+-- no names
 abbrev pub no_names : NameLists
-no_names = record { props = []; hosts = []; spans = []; nodes = []; entry = false; finish = false }
+no_names = record { props = []; hosts = []; spans = []; nodes = [] }
 
 -- the name is one of these
 abbrev pub is_among : List (List ℕ) → List ℕ → Bool
@@ -25,16 +24,16 @@ is_among names name = list_any (bytes_eq name) names
 abbrev pub with_name : List (List ℕ) → List ℕ → List (List ℕ)
 with_name names name = insert_key bytes_eq names name
 
--- with what one more call declares
+-- with the name that one more call declares
 abbrev pub with_call : NameLists → BuilderCall → NameLists
-with_call t (call.Prop name width) = record { props = with_name t.props name; hosts = t.hosts; spans = t.spans; nodes = t.nodes; entry = t.entry; finish = t.finish }
-with_call t (call.Host name value) = record { props = t.props; hosts = with_name t.hosts name; spans = t.spans; nodes = t.nodes; entry = t.entry; finish = t.finish }
-with_call t (call.Span name) = record { props = t.props; hosts = t.hosts; spans = with_name t.spans name; nodes = t.nodes; entry = t.entry; finish = t.finish }
-with_call t (call.Entry node) = record { props = t.props; hosts = t.hosts; spans = t.spans; nodes = t.nodes; entry = true; finish = t.finish }
-with_call t (call.Finish prop host) = record { props = t.props; hosts = t.hosts; spans = t.spans; nodes = t.nodes; entry = t.entry; finish = true }
-with_call t (call.Node name what) = record { props = t.props; hosts = t.hosts; spans = t.spans; nodes = with_name t.nodes name; entry = t.entry; finish = t.finish }
+with_call t (call.Prop name width) = record { props = with_name t.props name; hosts = t.hosts; spans = t.spans; nodes = t.nodes }
+with_call t (call.Host name value) = record { props = t.props; hosts = with_name t.hosts name; spans = t.spans; nodes = t.nodes }
+with_call t (call.Span name) = record { props = t.props; hosts = t.hosts; spans = with_name t.spans name; nodes = t.nodes }
+with_call t (call.Entry node) = t
+with_call t (call.Finish prop host) = t
+with_call t (call.Node name what) = record { props = t.props; hosts = t.hosts; spans = t.spans; nodes = with_name t.nodes name }
 with_call t (call.Edge when target) = t
 
--- what these calls declare
+-- the names that these calls declare
 abbrev pub names_in : List BuilderCall → NameLists
 names_in calls = fold with_call no_names calls

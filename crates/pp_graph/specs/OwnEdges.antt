@@ -1,7 +1,8 @@
 -- The edges of one node, as tables have them.
-use Rattle.std.specs.Prelude.{◌≡◌, ℕ, List, [], ◌∷◌, Bool, false, ◌==◌, bytes_eq, filter_map}
+use Rattle.std.specs.Prelude.{◌≡◌, ℕ, List, [], ◌∷◌, Bool, false, ◌&&◌, ◌==◌, length, bytes_eq, filter_map}
 use Rattle.std.specs.List.{list_any}
 use Rattle.std.specs.FinSet as set
+use Rattle.std.specs.BTreeSet.{contains}
 use Rattle.std.specs.Ordering.{nat_cmp}
 use Rattle.pp_graph.specs.declared.call.NamedEdge.{NamedEdge}
 use Rattle.pp_graph.specs.declared.call.NamedEdge.TheVariants as edge
@@ -23,9 +24,9 @@ is_answer n (edge.Peek byte) = false
 is_answer n (edge.Answer number) = number == n
 is_answer n (edge.Otherwise skip) = false
 
--- an edge is this key, or a peek byte that it begins with
+-- an edge is this key, of one byte, or a peek byte that it begins with
 abbrev pub key_clash : List ℕ → NamedEdge → Bool
-key_clash key (edge.Key bytes number) = bytes_eq bytes key
+key_clash key (edge.Key bytes number) = bytes_eq bytes key && length key == 1
 key_clash key (edge.Peek byte) = begins_with_byte byte key
 key_clash key (edge.Answer number) = false
 key_clash key (edge.Otherwise skip) = false
@@ -39,4 +40,4 @@ begins_in bytes (b ∷ key) = set.contains bytes b
 pub record HasEdges (table : OwnEdges) (own : List NamedEdge) : Type 0 where
   pub keys : HasKeys table.keys (filter_map key_of_edge own)
   pub peeks : (b : ℕ) → set.contains table.peeks b ≡ list_any (is_peek b) own
-  pub answers : (n : ℕ) → list_any (λ m. n == m) table.answers.keys ≡ list_any (is_answer n) own
+  pub answers : (n : ℕ) → contains nat_cmp table.answers n ≡ list_any (is_answer n) own

@@ -1,13 +1,13 @@
 -- What calls add up to, for the rules that look back.
-use Rattle.std.specs.Prelude.{◌≡◌, ◌≢◌, ℕ, ◌+◌, ◌<◌, ◌||◌, ◌++◌, ◌==◌, not, List, Bool, false, Option, Some, IsTrue, IsSomeAnd, slice_get, take, length, nat_le, nat_lt, sum_by}
+use Rattle.std.specs.Prelude.{◌≡◌, ◌≢◌, ℕ, ◌+◌, ◌<◌, ◌||◌, ◌++◌, List, Bool, false, Option, Some, IsTrue, IsSomeAnd, slice_get, take, length, nat_le, nat_lt, sum_by}
 use Rattle.std.specs.Prelude.{None as none}
 use Rattle.pp_graph.specs.declared.call.BuilderCall.{BuilderCall}
 use Rattle.pp_graph.specs.declared.fault.GraphRule.{GraphRule}
 use Rattle.pp_graph.specs.declared.fault.GraphRule.TheVariants.{DuplicateName, UnknownName, NoEntry, NoOtherwise, KeyClash, PrefixGap, ValueTarget, ValueTooWide, EmptyKey, KeyNotFolded, TooMany}
 use Rattle.pp_graph.specs.declared.seen.Seen.{Seen}
 use Rattle.pp_graph.specs.Calls.{since_node}
-use Rattle.pp_graph.specs.Rules.{edges_of, keys_of, is_lower, weight_of_call, is_clash, is_not_folded, passes_limit, FailsAt}
-use Rattle.pp_graph.specs.Gaps.{key_of}
+use Rattle.pp_graph.specs.Rules.{edges_of, keys_of, is_lower, weight_of_call, is_not_folded, passes_limit, FailsAt}
+use Rattle.pp_graph.specs.Clashes.{is_short_clash}
 use Rattle.pp_graph.specs.OwnEdges.{HasEdges}
 use Rattle.pp_graph.specs.Room.{HasRoom}
 
@@ -27,27 +27,28 @@ abbrev pub key_passes_limit : List BuilderCall → ℕ → Bool
 key_passes_limit before len =
     nat_lt 64 len || nat_le 2048 (length (keys_of (since_node before))) || nat_lt 20000 (sum_by weight_of_call before + len)
 
--- the rules that ask of the edges before a call, or count them
-abbrev pub LooksBack : GraphRule → Type 0
-LooksBack DuplicateName = ⊥
-LooksBack UnknownName = ⊥
-LooksBack NoEntry = ⊥
-LooksBack NoOtherwise = ⊥
-LooksBack KeyClash = Unit {0}
-LooksBack PrefixGap = ⊥
-LooksBack ValueTarget = ⊥
-LooksBack ValueTooWide = ⊥
-LooksBack EmptyKey = ⊥
-LooksBack KeyNotFolded = Unit {0}
-LooksBack TooMany = Unit {0}
+-- the rules that a pass over the calls tells whole, by the edges before a call and by counts
+abbrev pub IsToldBack : GraphRule → Type 0
+IsToldBack DuplicateName = ⊥
+IsToldBack UnknownName = ⊥
+IsToldBack NoEntry = ⊥
+IsToldBack NoOtherwise = ⊥
+IsToldBack KeyClash = ⊥
+IsToldBack PrefixGap = ⊥
+IsToldBack ValueTarget = ⊥
+IsToldBack ValueTooWide = ⊥
+IsToldBack EmptyKey = ⊥
+IsToldBack KeyNotFolded = Unit {0}
+IsToldBack TooMany = Unit {0}
 
--- such a rule fails at a call, with those before it
+-- such a rule fails at a call, with those before it. Of key clashes the pass tells those that are not equal keys of none or
+-- of several bytes.
 abbrev pub fails_back : GraphRule → List BuilderCall → BuilderCall → Bool
 fails_back DuplicateName before c = false
 fails_back UnknownName before c = false
 fails_back NoEntry before c = false
 fails_back NoOtherwise before c = false
-fails_back KeyClash before c = is_clash before c
+fails_back KeyClash before c = is_short_clash before c
 fails_back PrefixGap before c = false
 fails_back ValueTarget before c = false
 fails_back ValueTooWide before c = false
@@ -83,20 +84,15 @@ IsByItself EmptyKey = Unit {0}
 IsByItself KeyNotFolded = ⊥
 IsByItself TooMany = ⊥
 
--- the first call at which a rule fails, or none where it fails at no call; the end is no call
+-- the first of so many calls at which a rule fails, or none where it fails at none of them
+abbrev pub IsFirstAmong : GraphRule → List BuilderCall → ℕ → Option ℕ → Type 0
+IsFirstAmong rule calls n none = (j : ℕ) → j < n → ¬ (FailsAt rule calls j)
+IsFirstAmong rule calls n (Some i) = (i < n) × FailsAt rule calls i × ((j : ℕ) → j < i → ¬ (FailsAt rule calls j))
+
+-- the first of all of them; the end is no call
 abbrev pub IsFirstFailing : GraphRule → List BuilderCall → Option ℕ → Type 0
-IsFirstFailing rule calls none = (j : ℕ) → j < length calls → ¬ (FailsAt rule calls j)
-IsFirstFailing rule calls (Some i) = (i < length calls) × FailsAt rule calls i × ((j : ℕ) → j < i → ¬ (FailsAt rule calls j))
+IsFirstFailing rule calls found = IsFirstAmong rule calls (length calls) found
 
 -- such a rule fails at the call of this rank among a few, behind those before them
 abbrev pub FailsBehind : GraphRule → List BuilderCall → List BuilderCall → ℕ → Type 0
 FailsBehind rule before few k = IsSomeAnd (slice_get few k) (λ c. IsTrue (fails_back rule (before ++ take k few) c))
-
--- there is a key, of none or of several bytes
-abbrev pub is_longer : Option (List ℕ) → Bool
-is_longer none = false
-is_longer (Some key) = not (length key == 1)
-
--- a call adds such a key
-abbrev pub adds_longer_key : BuilderCall → Bool
-adds_longer_key c = is_longer (key_of c)

@@ -1,19 +1,18 @@
 // What all the calls of a builder declare, by name.
-ghost use Rattle.std.specs.Prelude.{◌≡◌, ◌||◌, ℕ, List, ◌∷◌, [], IfOk, OnOk, if◌then◌else◌, bytes_eq, Some, None};
-ghost use Rattle.std.specs.Option.{option_or};
+ghost use Rattle.std.specs.Prelude.{◌≡◌, IfOk};
 ghost use Rattle.pp_graph.specs.declared.call.Sort.TheVariants as sorts;
 ghost use Rattle.pp_graph.specs.Widths.{greatest as greatest_value};
 ghost use Rattle.pp_graph.specs.Calls.{is_declared};
 ghost use Rattle.pp_graph.specs.Built.{greatest_of as greatest_in, tables_of};
-ghost use Rattle.pp_graph.specs.Rules.{has_entry as has_entry_of, is_value_host as is_value_host_of, declares_value_host};
-ghost use Rattle.pp_graph.specs.NameLists.{names_in, is_among};
-ghost use Rattle.pp_graph.specs.Lookups.{at_name, width_of};
+ghost use Rattle.pp_graph.specs.Rules.{has_entry as has_entry_of, is_value_host as is_value_host_of};
+ghost use Rattle.pp_graph.specs.NameTables.{IsNames};
+ghost use Rattle.pp_graph.specs.Seen.{IsFirstFailing};
 
 use crate::call::BuilderCall;
+use crate::fault::GraphRule;
 use crate::graph::Width;
 use crate::name::Name;
-use crate::names::{Names, add_name};
-use indexmap::{IndexMap, IndexSet};
+use crate::names::Names;
 use std::alloc::{AllocError, Global};
 use std::marker::Model;
 
@@ -21,9 +20,8 @@ use std::marker::Model;
 #[derive(Drop)]
 pub(crate) struct Declared<'c> {
     calls: &'c [BuilderCall],
-    names: Names,
-    value_hosts: IndexSet<Name>,
-    widths: IndexMap<Name, Width>,
+    names: Names<'c>,
+    duplicate: Option<usize>,
 }
 
 impl<'c> Model for Declared<'c> {
@@ -35,7 +33,7 @@ impl<'c> Model for Declared<'c> {
 
     ghost view = { λ d. d.calls.now };
 
-    ghost invariant = { λ d. IsLookup d.calls.now d.names d.value_hosts.keys d.widths.entries };
+    ghost invariant = { λ d. IsLookup d.calls.now d.names d.duplicate };
 }
 
 impl<'c> Declared<'c> {
@@ -43,14 +41,11 @@ impl<'c> Declared<'c> {
     pub(crate) fn of(alloc: Global, calls: &'c [BuilderCall]) -> Result<Declared<'c>, AllocError>
         ensures { IfOk result (λ declared. declared ≡ calls.now) }
     {
-        let names = names_of(alloc, calls)?;
-        let value_hosts = value_hosts_of(alloc, calls)?;
-        let widths = widths_of(alloc, calls)?;
+        let (names, duplicate) = names_of(alloc, calls)?;
         Ok(Declared {
             calls,
             names,
-            value_hosts,
-            widths,
+            duplicate,
         })
     }
 
@@ -61,11 +56,11 @@ impl<'c> Declared<'c> {
         self.calls
     }
 
-    /// The names that the calls declare.
-    pub(crate) fn names(&self) -> &Names
-        ensures { result.now ≡ names_in self.now }
+    /// The first call that declares what an earlier one does.
+    pub(crate) fn duplicate(&self) -> Option<usize>
+        ensures { IsFirstFailing GraphRule.DuplicateName self.now result }
     {
-        &self.names
+        self.duplicate
     }
 
     /// Whether some call declares a property of this name.
@@ -107,15 +102,15 @@ impl<'c> Declared<'c> {
     pub(crate) fn is_value_host(&self, name: &Name) -> bool
         ensures { result ≡ is_value_host_of self.now name.now }
     {
-        self.value_hosts.contains(name)
+        self.names.is_value_host(name)
     }
 
     /// The greatest value of the first property of this name, or of all where there is none.
     pub(crate) fn greatest_of(&self, name: &Name) -> u64
         ensures { result ≡ greatest_in (tables_of self.now) name.now }
     {
-        match self.widths.get(name) {
-            Some(width) => greatest(*width),
+        match self.names.width(name) {
+            Some(width) => greatest(width),
             None => u64::MAX,
         }
     }
@@ -133,78 +128,19 @@ fn greatest(width: Width) -> u64
     }
 }
 
-// The names that calls declare.
-fn names_of(alloc: Global, calls: &[BuilderCall]) -> Result<Names, AllocError>
-    ensures { IfOk result (λ names. names ≡ names_in calls.now) }
+// The names that calls declare, and the first call that declares what an earlier one does.
+fn names_of<'c>(
+    alloc: Global,
+    calls: &'c [BuilderCall],
+) -> Result<(Names<'c>, Option<usize>), AllocError>
+    ensures names { IfOk result (λ found. IsNames found.0 calls.now) }
+    ensures duplicate { IfOk result (λ found. IsFirstFailing GraphRule.DuplicateName calls.now found.1) }
 {
     let mut names = Names::new(alloc);
-    for call in calls {
-        names.add(alloc, call)?;
+    let mut duplicate = None;
+    for i in 0..calls.len() {
+        let there = names.add(&calls[i])?;
+        duplicate = duplicate.or(there.then_some(i));
     }
-    Ok(names)
-}
-
-// The names of the hosts that are asked with the carried number.
-fn value_hosts_of(alloc: Global, calls: &[BuilderCall]) -> Result<IndexSet<Name>, AllocError>
-    ensures { IfOk result (λ hosts. (name : List ℕ) → is_among hosts.keys name ≡ is_value_host_of calls.now name) }
-{
-    let mut hosts = IndexSet::new(alloc);
-    for call in calls {
-        add_value_host(&mut hosts, alloc, call)?;
-    }
-    Ok(hosts)
-}
-
-// Adds the host of a call, if it is asked with the carried number.
-fn add_value_host(
-    hosts: &mut IndexSet<Name>,
-    alloc: Global,
-    call: &BuilderCall,
-) -> Result<(), AllocError>
-    ensures { OnOk result ((name : List ℕ) → is_among hosts.new.keys name ≡ (is_among hosts.old.keys name || declares_value_host name call.now)) }
-{
-    if let BuilderCall::Host { name, value: true } = call {
-        add_name(hosts, alloc, name)?;
-    }
-    Ok(())
-}
-
-// The width of the first property of each name.
-fn widths_of(alloc: Global, calls: &[BuilderCall]) -> Result<IndexMap<Name, Width>, AllocError>
-    ensures { IfOk result (λ widths. (name : List ℕ) → at_name widths.entries name ≡ width_of calls.now name) }
-{
-    let mut widths = IndexMap::new(alloc);
-    for call in calls {
-        add_width(&mut widths, alloc, call)?;
-    }
-    Ok(widths)
-}
-
-// Adds the property of a call, unless an earlier one has its name.
-fn add_width(
-    widths: &mut IndexMap<Name, Width>,
-    alloc: Global,
-    call: &BuilderCall,
-) -> Result<(), AllocError>
-    ensures { OnOk result ((name : List ℕ) → at_name widths.new.entries name ≡ option_or (at_name widths.old.entries name) (width_of (call.now ∷ []) name)) }
-{
-    match call {
-        BuilderCall::Prop { name, width } => add_first(widths, alloc, name, *width),
-        _ => Ok(()),
-    }
-}
-
-// Adds a property, unless there is one of its name.
-fn add_first(
-    widths: &mut IndexMap<Name, Width>,
-    alloc: Global,
-    name: &Name,
-    width: Width,
-) -> Result<(), AllocError>
-    ensures { OnOk result ((other : List ℕ) → at_name widths.new.entries other ≡ option_or (at_name widths.old.entries other) (if bytes_eq name.now other then Some width else None)) }
-{
-    if !widths.contains_key(name) {
-        widths.insert(Name::new(alloc, name.bytes())?, width)?;
-    }
-    Ok(())
+    Ok((names, duplicate))
 }

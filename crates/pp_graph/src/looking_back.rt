@@ -1,67 +1,48 @@
 // The rules that look back from a call: at the edges of its node so far, and at the counts.
-ghost use Rattle.std.specs.Prelude.{◌<◌, ◌^◌, ◌++◌, ◌∷◌, ℕ, List, [], length, map, IsNone, IfOk, OnOk};
+ghost use Rattle.std.specs.Prelude.{◌<◌, ◌^◌, ◌++◌, ◌∷◌, ℕ, List, [], length, map, IsNone, IfOk};
 ghost use Rattle.pp_bytes.specs.Bytes.{bytes_of};
 ghost use Rattle.pp_graph.specs.declared.call.BuilderCall.{BuilderCall as Call};
-ghost use Rattle.pp_graph.specs.Rules.{FailsAt};
 ghost use Rattle.pp_graph.specs.Sets.{all_calls, byte_call, spread, AreSets, IsSetOf};
 ghost use Rattle.pp_graph.specs.Least.{IsLeast};
-ghost use Rattle.pp_graph.specs.Seen.{TakesIn, LooksBack, FailsBehind};
+ghost use Rattle.pp_graph.specs.Seen.{TakesIn, FailsBehind};
 
 use crate::call::BuilderCall;
 use crate::calls::{ByteUse, number_of, use_of};
-use crate::edges::is_node;
 use crate::fault::GraphRule;
 use crate::seen::Seen;
 use pp_bytes::ByteSet;
 use std::alloc::{AllocError, Global};
 
-/// The first call at which such a rule fails, of all the calls that the kept ones stand for, with the set of each.
+/// The first call at which such a rule fails, of all the calls that the kept ones stand for, with the set of each. Of
+/// key clashes it tells those that are not equal keys of none or several bytes.
 pub(crate) fn first_looking_back(
     alloc: Global,
     rule: GraphRule,
     calls: &[BuilderCall],
     sets: &[Option<ByteSet>],
 ) -> Result<Option<usize>, AllocError>
-    requires rule { LooksBack rule }
     requires sets { AreSets calls.now sets.now }
     requires small { length (all_calls calls.now sets.now) < 2 ^ 32 }
-    ensures { IfOk result (IsLeast (FailsAt rule (all_calls calls.now sets.now))) }
+    ensures { IfOk result (IsLeast (FailsBehind rule [] (all_calls calls.now sets.now))) }
 {
     let mut seen = Seen::new(alloc);
     for i in 0..calls.len() {
         if let Some(rank) = first_of_kept(rule, &mut seen, &calls[i], &sets[i])? {
             return Ok(Some(number_of(sets, i) + rank));
         }
-        make_room(rule, &mut seen, &calls[i], &calls[i + 1..])?;
     }
     Ok(None)
 }
 
-// Behind a node, makes room for what a rule asks of the calls that belong to it, which are the first of those after it.
-fn make_room(
-    rule: GraphRule,
-    seen: &mut Seen<'_>,
-    call: &BuilderCall,
-    after: &[BuilderCall],
-) -> Result<(), AllocError>
-    ensures { OnOk result ((before : List Call) → TakesIn rule seen.old before → TakesIn rule seen.new before) }
-{
-    if is_node(call) {
-        seen.expect(rule, after)?;
-    }
-    Ok(())
-}
-
 // The rank of the first call at which such a rule fails, of those that a kept one stands for; where there is none, all
 // of them are taken in.
-fn first_of_kept<'c>(
+fn first_of_kept(
     rule: GraphRule,
-    seen: &mut Seen<'c>,
-    call: &'c BuilderCall,
+    seen: &mut Seen,
+    call: &BuilderCall,
     set: &Option<ByteSet>,
 ) -> Result<Option<usize>, AllocError>
-    requires rule { LooksBack rule }
-    requires set { IsSetOf call.now set.now }
+    requires { IsSetOf call.now set.now }
     ensures fails { IfOk result (λ found. (before : List Call) → TakesIn rule seen.old before → IsLeast (FailsBehind rule before (spread call.now set.now)) found) }
     ensures taken { IfOk result (λ found. IsNone found → (before : List Call) → TakesIn rule seen.old before → TakesIn rule seen.new (before ++ spread call.now set.now)) }
 {
@@ -72,12 +53,11 @@ fn first_of_kept<'c>(
 }
 
 // The same of one call.
-fn first_of_one<'c>(
+fn first_of_one(
     rule: GraphRule,
-    seen: &mut Seen<'c>,
-    call: &'c BuilderCall,
+    seen: &mut Seen,
+    call: &BuilderCall,
 ) -> Result<Option<usize>, AllocError>
-    requires rule { LooksBack rule }
     ensures fails { IfOk result (λ found. (before : List Call) → TakesIn rule seen.old before → IsLeast (FailsBehind rule before (call.now ∷ [])) found) }
     ensures taken { IfOk result (λ found. IsNone found → (before : List Call) → TakesIn rule seen.old before → TakesIn rule seen.new (before ++ call.now ∷ [])) }
 {
@@ -86,13 +66,7 @@ fn first_of_one<'c>(
 }
 
 // The same of the edges of a set.
-fn first_of_set(
-    rule: GraphRule,
-    seen: &mut Seen<'_>,
-    how: ByteUse,
-    bytes: &ByteSet,
-) -> Option<usize>
-    requires rule { LooksBack rule }
+fn first_of_set(rule: GraphRule, seen: &mut Seen, how: ByteUse, bytes: &ByteSet) -> Option<usize>
     ensures fails { (before : List Call) (target : List ℕ) → TakesIn rule seen.old before → IsLeast (FailsBehind rule before (map (byte_call how target) (bytes_of bytes.now))) result }
     ensures taken { IsNone result → (before : List Call) (target : List ℕ) → TakesIn rule seen.old before → TakesIn rule seen.new (before ++ map (byte_call how target) (bytes_of bytes.now)) }
 {

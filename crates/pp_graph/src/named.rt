@@ -1,29 +1,11 @@
-// What calls declare and name.
-ghost use Rattle.std.specs.Prelude.{◌≡◌, List, not};
+// What calls name.
+ghost use Rattle.std.specs.Prelude.{◌≡◌, not};
 ghost use Rattle.std.specs.List.{list_any};
-ghost use Rattle.pp_graph.specs.declared.call.BuilderCall.{BuilderCall};
 ghost use Rattle.pp_graph.specs.Calls.{is_declared as is_declared_of, named_by_kind, named_by_code};
-ghost use Rattle.pp_graph.specs.NameLists.{names_in};
-ghost use Rattle.pp_graph.specs.Rules.{is_duplicate as is_duplicate_of, names_unknown as names_unknown_of};
+ghost use Rattle.pp_graph.specs.Rules.{names_unknown as names_unknown_of};
 
 use crate::call::{BuilderCall, NamedCode, NamedKind};
 use crate::declared::Declared;
-use crate::names::Names;
-
-/// Whether an earlier call declares the same name of the same sort.
-pub(crate) fn is_duplicate(before: &Names, call: &BuilderCall) -> bool
-    ensures { (calls : List BuilderCall) → before.now ≡ names_in calls → result ≡ is_duplicate_of calls call.now }
-{
-    match call {
-        BuilderCall::Prop { name, .. } => before.has_prop(name),
-        BuilderCall::Host { name, .. } => before.has_host(name),
-        BuilderCall::Span { name } => before.has_span(name),
-        BuilderCall::Entry { .. } => before.has_entry(),
-        BuilderCall::Finish { .. } => before.has_finish(),
-        BuilderCall::Node { name, .. } => before.has_node(name),
-        BuilderCall::Edge { .. } => false,
-    }
-}
 
 /// Whether no call at all declares something that a call names.
 pub(crate) fn names_unknown(declared: &Declared<'_>, call: &BuilderCall) -> bool

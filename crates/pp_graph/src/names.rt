@@ -1,148 +1,158 @@
-// Tables of the names that calls declare.
-ghost use Rattle.std.specs.Prelude.{◌≡◌, ◌<◌, ◌^◌, length, OnOk};
-ghost use Rattle.pp_graph.specs.Built.{place_of as place_among};
-ghost use Rattle.pp_graph.specs.NameLists.{no_names, with_call, with_name, is_among};
+// What calls declare, by name.
+ghost use Rattle.std.specs.Prelude.{◌≡◌, ℕ, List, ◌∷◌, [], ◌++◌, ◌||◌, ◌&&◌, IfOk, OnOk, Some, None, if◌then◌else◌, bytes_eq};
+ghost use Rattle.std.specs.Option.{option_or};
+ghost use Rattle.pp_graph.specs.declared.call.BuilderCall.{BuilderCall as Call};
+ghost use Rattle.pp_graph.specs.Rules.{is_duplicate};
+ghost use Rattle.pp_graph.specs.NameTables.{value_at, is_at, is_true_at, IsNames};
 
 use crate::call::BuilderCall;
+use crate::graph::Width;
 use crate::name::Name;
-use indexmap::IndexSet;
+use crate::name_table::NameTable;
 use std::alloc::{AllocError, Global};
-use std::marker::Model;
 
-/// What calls declare: the names of each sort, each once, in the order of their first declarations.
+/// What calls declare: the width of the first property of each name, whether some host of a name is asked with the
+/// carried number, the names of spans and nodes, and whether the entry and a finish rule are given.
 #[derive(Drop)]
-pub(crate) struct Names {
-    props: IndexSet<Name>,
-    hosts: IndexSet<Name>,
-    spans: IndexSet<Name>,
-    nodes: IndexSet<Name>,
+pub(crate) struct Names<'c> {
+    props: NameTable<'c, Width>,
+    hosts: NameTable<'c, bool>,
+    spans: NameTable<'c, ()>,
+    nodes: NameTable<'c, ()>,
     entry: bool,
     finish: bool,
 }
 
-impl Model for Names {
-    ghost use Rattle.pp_graph.specs.NameLists.{NameLists};
-
-    ghost Value = { NameLists };
-
-    ghost view = { λ n. record { props = n.props.keys; hosts = n.hosts.keys; spans = n.spans.keys; nodes = n.nodes.keys; entry = n.entry; finish = n.finish } };
-}
-
-impl Names {
-    /// No names. Takes no memory.
-    pub(crate) fn new(alloc: Global) -> Names
-        ensures { result ≡ no_names }
+impl<'c> Names<'c> {
+    /// What no calls declare. Takes no memory.
+    pub(crate) fn new(alloc: Global) -> Names<'c>
+        ensures { IsNames result [] }
     {
         Names {
-            props: IndexSet::new(alloc),
-            hosts: IndexSet::new(alloc),
-            spans: IndexSet::new(alloc),
-            nodes: IndexSet::new(alloc),
+            props: NameTable::new(alloc),
+            hosts: NameTable::new(alloc),
+            spans: NameTable::new(alloc),
+            nodes: NameTable::new(alloc),
             entry: false,
             finish: false,
         }
     }
 
-    /// Adds what one more call declares.
-    pub(crate) fn add(&mut self, alloc: Global, call: &BuilderCall) -> Result<(), AllocError>
-        ensures { OnOk result (self.new ≡ with_call self.old call.now) }
+    /// Adds what one more call declares, and tells whether an earlier one declares the same.
+    pub(crate) fn add(&mut self, call: &'c BuilderCall) -> Result<bool, AllocError>
+        ensures added { OnOk result ((before : List Call) → IsNames self.old before → IsNames self.new (before ++ call.now ∷ [])) }
+        ensures duplicate { IfOk result (λ there. (before : List Call) → IsNames self.old before → there ≡ is_duplicate before call.now) }
     {
         match call {
-            BuilderCall::Prop { name, .. } => add_name(&mut self.props, alloc, name)?,
-            BuilderCall::Host { name, .. } => add_name(&mut self.hosts, alloc, name)?,
-            BuilderCall::Span { name } => add_name(&mut self.spans, alloc, name)?,
-            BuilderCall::Node { name, .. } => add_name(&mut self.nodes, alloc, name)?,
-            BuilderCall::Entry { .. } => self.entry = true,
-            BuilderCall::Finish { .. } => self.finish = true,
-            BuilderCall::Edge { .. } => {}
+            BuilderCall::Prop { name, width } => add_first(&mut self.props, name, *width),
+            BuilderCall::Host { name, value } => add_either(&mut self.hosts, name, *value),
+            BuilderCall::Span { name } => add_name(&mut self.spans, name),
+            BuilderCall::Node { name, .. } => add_name(&mut self.nodes, name),
+            BuilderCall::Entry { .. } => {
+                let there = self.entry;
+                self.entry = true;
+                Ok(there)
+            }
+            BuilderCall::Finish { .. } => {
+                let there = self.finish;
+                self.finish = true;
+                Ok(there)
+            }
+            BuilderCall::Edge { .. } => Ok(false),
         }
-        Ok(())
     }
 
+    /// The width of the first property of this name.
+    pub(crate) fn width(&self, name: &Name) -> Option<Width>
+        ensures { result ≡ value_at self.now.props name.now }
+    {
+        self.props.get(name)
+    }
+
+    /// Whether some call declares a property of this name.
     pub(crate) fn has_prop(&self, name: &Name) -> bool
-        ensures { result ≡ is_among self.now.props name.now }
+        ensures { result ≡ is_at self.now.props name.now }
     {
-        self.props.contains(name)
+        self.props.get(name).is_some()
     }
 
+    /// Whether some call declares a host of this name.
     pub(crate) fn has_host(&self, name: &Name) -> bool
-        ensures { result ≡ is_among self.now.hosts name.now }
+        ensures { result ≡ is_at self.now.hosts name.now }
     {
-        self.hosts.contains(name)
+        self.hosts.get(name).is_some()
     }
 
+    /// Whether some call declares a span of this name.
     pub(crate) fn has_span(&self, name: &Name) -> bool
-        ensures { result ≡ is_among self.now.spans name.now }
+        ensures { result ≡ is_at self.now.spans name.now }
     {
-        self.spans.contains(name)
+        self.spans.get(name).is_some()
     }
 
+    /// Whether some call declares a node of this name.
     pub(crate) fn has_node(&self, name: &Name) -> bool
-        ensures { result ≡ is_among self.now.nodes name.now }
+        ensures { result ≡ is_at self.now.nodes name.now }
     {
-        self.nodes.contains(name)
+        self.nodes.get(name).is_some()
     }
 
+    /// Whether some call gives the entry.
     pub(crate) fn has_entry(&self) -> bool
         ensures { result ≡ self.now.entry }
     {
         self.entry
     }
 
-    pub(crate) fn has_finish(&self) -> bool
-        ensures { result ≡ self.now.finish }
+    /// Whether some host of this name is asked with the carried number.
+    pub(crate) fn is_value_host(&self, name: &Name) -> bool
+        ensures { result ≡ is_true_at self.now.hosts name.now }
     {
-        self.finish
-    }
-
-    pub(crate) fn prop_place(&self, name: &Name) -> u32
-        requires { length self.now.props < 2 ^ 32 }
-        ensures { result ≡ place_among self.now.props name.now }
-    {
-        place_in(&self.props, name)
-    }
-
-    pub(crate) fn host_place(&self, name: &Name) -> u32
-        requires { length self.now.hosts < 2 ^ 32 }
-        ensures { result ≡ place_among self.now.hosts name.now }
-    {
-        place_in(&self.hosts, name)
-    }
-
-    pub(crate) fn span_place(&self, name: &Name) -> u32
-        requires { length self.now.spans < 2 ^ 32 }
-        ensures { result ≡ place_among self.now.spans name.now }
-    {
-        place_in(&self.spans, name)
-    }
-
-    pub(crate) fn node_place(&self, name: &Name) -> u32
-        requires { length self.now.nodes < 2 ^ 32 }
-        ensures { result ≡ place_among self.now.nodes name.now }
-    {
-        place_in(&self.nodes, name)
+        self.hosts.get(name).unwrap_or(false)
     }
 }
 
-/// Adds a name, unless it is there.
-pub(crate) fn add_name(
-    names: &mut IndexSet<Name>,
-    alloc: Global,
-    name: &Name,
-) -> Result<(), AllocError>
-    ensures { OnOk result (names.new.keys ≡ with_name names.old.keys name.now) }
+// Adds a width, unless there is one of this name, and tells whether there was.
+fn add_first<'c>(
+    widths: &mut NameTable<'c, Width>,
+    name: &'c Name,
+    width: Width,
+) -> Result<bool, AllocError>
+    ensures added { OnOk result ((other : List ℕ) → value_at widths.new other ≡ option_or (value_at widths.old other) (if bytes_eq name.now other then Some width else None)) }
+    ensures there { IfOk result (λ there. there ≡ is_at widths.old name.now) }
 {
-    names.insert(Name::new(alloc, name.bytes())?)?;
-    Ok(())
+    if let Some(first) = widths.set(name, width)? {
+        widths.set(name, first)?;
+        return Ok(true);
+    }
+    Ok(false)
 }
 
-// The place of a name, or the count of all where it is not there.
-fn place_in(names: &IndexSet<Name>, name: &Name) -> u32
-    requires { length names.now.keys < 2 ^ 32 }
-    ensures { result ≡ place_among names.now.keys name.now }
+// Adds a host, and tells whether there was one of this name. A value that is true stays.
+fn add_either<'c>(
+    hosts: &mut NameTable<'c, bool>,
+    name: &'c Name,
+    value: bool,
+) -> Result<bool, AllocError>
+    ensures added { OnOk result ((other : List ℕ) → is_at hosts.new other ≡ (is_at hosts.old other || bytes_eq name.now other)) }
+    ensures value { OnOk result ((other : List ℕ) → is_true_at hosts.new other ≡ (is_true_at hosts.old other || bytes_eq name.now other && value)) }
+    ensures there { IfOk result (λ there. there ≡ is_at hosts.old name.now) }
 {
-    match names.get_index_of(name) {
-        Some(place) => place as u32,
-        None => names.len() as u32,
+    if let Some(before) = hosts.set(name, value)? {
+        hosts.set(name, before || value)?;
+        return Ok(true);
     }
+    Ok(false)
+}
+
+/// Adds a name, and tells whether it was there.
+pub(crate) fn add_name<'c>(
+    names: &mut NameTable<'c, ()>,
+    name: &'c Name,
+) -> Result<bool, AllocError>
+    ensures added { OnOk result ((other : List ℕ) → is_at names.new other ≡ (is_at names.old other || bytes_eq name.now other)) }
+    ensures there { IfOk result (λ there. there ≡ is_at names.old name.now) }
+{
+    let before = names.set(name, ())?;
+    Ok(before.is_some())
 }

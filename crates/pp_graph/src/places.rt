@@ -1,5 +1,5 @@
 // Where declarations stand among those of their sort.
-ghost use Rattle.std.specs.Prelude.{◌≡◌, ◌<◌, ◌^◌, length};
+ghost use Rattle.std.specs.Prelude.{◌≡◌, ◌<◌, ◌^◌, length, IfOk};
 ghost use Rattle.pp_graph.specs.declared.call.Sort.TheVariants as sorts;
 ghost use Rattle.pp_graph.specs.Calls.{names_of};
 ghost use Rattle.pp_graph.specs.Built.{place_of, greatest_of as greatest_in, tables_of};
@@ -8,34 +8,41 @@ ghost use Rattle.pp_graph.specs.Rules.{KeepsRules};
 use crate::call::BuilderCall;
 use crate::declared::Declared;
 use crate::name::Name;
+use crate::name_lists::NameLists;
+use std::alloc::{AllocError, Global};
 use std::marker::Model;
 
 /// The places of declarations, of calls that declare no name of a sort twice. Contracts see it as the list of the calls.
 #[derive(Drop)]
 pub(crate) struct Places<'d, 'c> {
     declared: &'d Declared<'c>,
+    lists: NameLists,
 }
 
 impl<'d, 'c> Model for Places<'d, 'c> {
     ghost use Rattle.std.specs.Prelude.{List};
     ghost use Rattle.pp_graph.specs.declared.call.BuilderCall.{BuilderCall};
-    ghost use Rattle.pp_graph.specs.Lookups.{DeclaresOnce};
+    ghost use Rattle.pp_graph.specs.Lookups.{HasPlaces};
 
     ghost Value = { List BuilderCall };
 
     ghost view = { λ p. p.declared.now };
 
-    ghost invariant = { λ p. DeclaresOnce p.declared.now };
+    ghost invariant = { λ p. HasPlaces p.declared.now p.lists };
 }
 
 impl<'d, 'c> Places<'d, 'c> {
     /// The places of these declarations.
-    pub(crate) fn of(declared: &'d Declared<'c>) -> Places<'d, 'c>
+    pub(crate) fn of(
+        alloc: Global,
+        declared: &'d Declared<'c>,
+    ) -> Result<Places<'d, 'c>, AllocError>
         requires rules { KeepsRules declared.now }
         requires small { length declared.now < 2 ^ 32 }
-        ensures { result ≡ declared.now }
+        ensures { IfOk result (λ places. places ≡ declared.now) }
     {
-        Places { declared }
+        let lists = NameLists::of(alloc, declared.calls())?;
+        Ok(Places { declared, lists })
     }
 
     /// The calls.
@@ -49,28 +56,28 @@ impl<'d, 'c> Places<'d, 'c> {
     pub(crate) fn prop(&self, name: &Name) -> u32
         ensures { result ≡ place_of (names_of sorts.Prop self.now) name.now }
     {
-        self.declared.names().prop_place(name)
+        self.lists.prop_place(name)
     }
 
     /// The place of the host of this name, or the count of all where there is none.
     pub(crate) fn host(&self, name: &Name) -> u32
         ensures { result ≡ place_of (names_of sorts.Host self.now) name.now }
     {
-        self.declared.names().host_place(name)
+        self.lists.host_place(name)
     }
 
     /// The place of the span of this name, or the count of all where there is none.
     pub(crate) fn span(&self, name: &Name) -> u32
         ensures { result ≡ place_of (names_of sorts.Span self.now) name.now }
     {
-        self.declared.names().span_place(name)
+        self.lists.span_place(name)
     }
 
     /// The place of the node of this name, or the count of all where there is none.
     pub(crate) fn node(&self, name: &Name) -> u32
         ensures { result ≡ place_of (names_of sorts.Node self.now) name.now }
     {
-        self.declared.names().node_place(name)
+        self.lists.node_place(name)
     }
 
     /// The greatest value of the property of this name, or of all where there is none.

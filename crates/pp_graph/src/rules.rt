@@ -5,16 +5,18 @@ ghost use Rattle.pp_graph.specs.Rules.{KeepsRules, IsFirstFault, FailsAt, fails 
 ghost use Rattle.pp_graph.specs.declared.fault.GraphRule.TheVariants as rules;
 ghost use Rattle.pp_graph.specs.Sets.{all_calls, AreSets};
 ghost use Rattle.pp_graph.specs.Least.{IsLeast};
+ghost use Rattle.pp_graph.specs.Clashes.{ComesAgainAt};
+ghost use Rattle.pp_graph.specs.KeyFaults.{AreFirst};
 ghost use Rattle.pp_graph.specs.Seen.{IsByName, IsByItself, IsFirstFailing};
 
 use crate::call::BuilderCall;
 use crate::calls::number_of;
 use crate::edges::{is_empty_key, lacks_otherwise};
 use crate::fault::GraphRule;
-use crate::gaps::first_gap;
+use crate::key_faults::{KeyFaults, lesser};
+use crate::key_rules::first_key_faults;
 use crate::looking_back::first_looking_back;
-use crate::named::{is_duplicate, names_unknown};
-use crate::names::Names;
+use crate::named::names_unknown;
 use crate::values::{Values, is_too_wide, is_value_fault};
 use pp_bytes::ByteSet;
 use std::alloc::{AllocError, Global};
@@ -46,80 +48,66 @@ pub(crate) fn first_fault(
     ensures first { IfOk result (λ found. IfSome found (λ fault. IsFirstFault (all_calls values.now sets.now) fault.0 fault.1)) }
     ensures within { IfOk result (λ found. IfSome found (λ fault. fault.1 ≤ length (all_calls values.now sets.now))) }
 {
+    let keys = first_key_faults(alloc, values.declared().calls(), sets)?;
     for rule in RULES {
-        if let Some(call) = first_failure(alloc, rule, values, sets)? {
+        if let Some(call) = first_failure(alloc, rule, values, sets, keys)? {
             return Ok(Some((rule, call)));
         }
     }
     Ok(None)
 }
 
-// The first call at which a rule fails; the count of calls stands for the end.
+// The first call at which a rule fails, by the first faults of keys that sorting tells; the count of calls stands for the
+// end.
 fn first_failure(
     alloc: Global,
     rule: GraphRule,
     values: &Values<'_>,
     sets: &[Option<ByteSet>],
+    keys: KeyFaults,
 ) -> Result<Option<usize>, AllocError>
+    requires keys { AreFirst (ComesAgainAt (all_calls values.now sets.now)) (FailsAt rules.PrefixGap (all_calls values.now sets.now)) keys }
     requires sets { AreSets values.now sets.now }
     requires small { length (all_calls values.now sets.now) < 2 ^ 32 }
     ensures { IfOk result (IsLeast (FailsAt rule (all_calls values.now sets.now))) }
 {
     let calls = values.declared().calls();
     match rule {
-        GraphRule::PrefixGap => first_gap(alloc, calls, sets),
-        GraphRule::KeyClash | GraphRule::KeyNotFolded | GraphRule::TooMany => {
+        GraphRule::PrefixGap => Ok(keys.gap),
+        GraphRule::KeyClash => Ok(lesser(
+            first_looking_back(alloc, rule, calls, sets)?,
+            keys.again,
+        )),
+        GraphRule::KeyNotFolded | GraphRule::TooMany => {
             first_looking_back(alloc, rule, calls, sets)
         }
-        _ => first_by_name(alloc, rule, values, sets),
+        _ => Ok(first_by_name(rule, values, sets)),
     }
 }
 
 // The same of a rule that asks nothing of the byte of an edge: it is tried at the kept calls.
-fn first_by_name(
-    alloc: Global,
-    rule: GraphRule,
-    values: &Values<'_>,
-    sets: &[Option<ByteSet>],
-) -> Result<Option<usize>, AllocError>
+fn first_by_name(rule: GraphRule, values: &Values<'_>, sets: &[Option<ByteSet>]) -> Option<usize>
     requires rule { IsByName rule }
     requires sets { AreSets values.now sets.now }
     requires small { length (all_calls values.now sets.now) < 2 ^ 32 }
-    ensures { IfOk result (IsLeast (FailsAt rule (all_calls values.now sets.now))) }
+    ensures { IsLeast (FailsAt rule (all_calls values.now sets.now)) result }
 {
-    match first_failing_call(alloc, rule, values)? {
-        Some(place) => Ok(Some(number_of(sets, place))),
-        None => Ok(failure_at_end(rule, values, sets)),
+    match first_failing_call(rule, values) {
+        Some(place) => Some(number_of(sets, place)),
+        None => failure_at_end(rule, values, sets),
     }
 }
 
 // The first kept call at which such a rule fails, the end aside.
-fn first_failing_call(
-    alloc: Global,
-    rule: GraphRule,
-    values: &Values<'_>,
-) -> Result<Option<usize>, AllocError>
+fn first_failing_call(rule: GraphRule, values: &Values<'_>) -> Option<usize>
     requires { IsByName rule }
-    ensures { IfOk result (IsFirstFailing rule values.now) }
+    ensures { IsFirstFailing rule values.now result }
 {
     match rule {
-        GraphRule::DuplicateName => first_duplicate(alloc, values.declared().calls()),
-        _ => Ok(first_by_itself(rule, values)),
+        GraphRule::DuplicateName => values.declared().duplicate(),
+        GraphRule::NoEntry => None,
+        _ => first_by_itself(rule, values),
     }
-}
-
-// The first call that declares what an earlier one does.
-fn first_duplicate(alloc: Global, calls: &[BuilderCall]) -> Result<Option<usize>, AllocError>
-    ensures { IfOk result (IsFirstFailing rules.DuplicateName calls.now) }
-{
-    let mut names = Names::new(alloc);
-    for i in 0..calls.len() {
-        if is_duplicate(&names, &calls[i]) {
-            return Ok(Some(i));
-        }
-        names.add(alloc, &calls[i])?;
-    }
-    Ok(None)
 }
 
 // The first kept call at which a rule fails that asks nothing of the calls before one.

@@ -1,14 +1,15 @@
 // What the calls before the present one add up to.
-ghost use Rattle.std.specs.Prelude.{◌≡◌, ℕ, List, [], ◌∷◌, ◌++◌, count_by, IfOk, OnOk};
+ghost use Rattle.std.specs.Prelude.{◌≡◌, ℕ, List, [], ◌∷◌, ◌++◌, IfOk, OnOk};
 ghost use Rattle.pp_graph.specs.declared.call.BuilderCall.{BuilderCall as Call};
 ghost use Rattle.pp_graph.specs.declared.fault.GraphRule.{GraphRule as Rule};
+ghost use Rattle.pp_graph.specs.Clashes.{is_short_clash};
 ghost use Rattle.pp_graph.specs.Sets.{byte_call};
-ghost use Rattle.pp_graph.specs.Seen.{SumsUp, TakesIn, adds_longer_key, fails_back, key_passes_limit as key_passes_limit_of};
-ghost use Rattle.pp_graph.specs.Rules.{is_clash, passes_limit as passes_limit_of, edge_passes_limit as edge_passes_limit_of, is_lower, lower_after as lower_after_of, lower_kind};
+ghost use Rattle.pp_graph.specs.Seen.{SumsUp, TakesIn, fails_back, key_passes_limit as key_passes_limit_of};
+ghost use Rattle.pp_graph.specs.Rules.{passes_limit as passes_limit_of, edge_passes_limit as edge_passes_limit_of, is_lower, lower_after as lower_after_of, lower_kind};
 
 use crate::call::{BuilderCall, NamedEdge, NamedKind};
 use crate::calls::ByteUse;
-use crate::edges::{has_upper_case, is_upper_case, own_calls};
+use crate::edges::{has_upper_case, is_upper_case};
 use crate::fault::GraphRule;
 use crate::own_edges::OwnEdges;
 use crate::room::Room;
@@ -18,16 +19,16 @@ use std::alloc::{AllocError, Global};
 /// What the calls before the present one add up to, as far as a rule asks for it: the edges of the node that was added
 /// last, whether it compares in lower case, and the room that is left up to the limits.
 #[derive(Drop)]
-pub(crate) struct Seen<'c> {
+pub(crate) struct Seen {
     alloc: Global,
-    edges: OwnEdges<'c>,
+    edges: OwnEdges,
     lower: bool,
     room: Room,
 }
 
-impl<'c> Seen<'c> {
+impl Seen {
     /// Before the first call. Takes no memory.
-    pub(crate) fn new(alloc: Global) -> Seen<'c>
+    pub(crate) fn new(alloc: Global) -> Seen
         ensures { (rule : Rule) → TakesIn rule result [] }
     {
         Seen {
@@ -38,22 +39,8 @@ impl<'c> Seen<'c> {
         }
     }
 
-    /// Makes room for the keys of the present node, where a rule asks for them, by the calls behind the node.
-    pub(crate) fn expect(
-        &mut self,
-        rule: GraphRule,
-        after: &[BuilderCall],
-    ) -> Result<(), AllocError>
-        ensures { OnOk result ((before : List Call) → TakesIn rule self.old before → TakesIn rule self.new before) }
-    {
-        match rule {
-            GraphRule::KeyClash => self.edges.reserve_keys(longer_keys(own_calls(after))),
-            _ => Ok(()),
-        }
-    }
-
     /// Takes in what a rule asks of one more call. Answers whether the rule fails at it.
-    pub(crate) fn add(&mut self, rule: GraphRule, call: &'c BuilderCall) -> Result<bool, AllocError>
+    pub(crate) fn add(&mut self, rule: GraphRule, call: &BuilderCall) -> Result<bool, AllocError>
         ensures taken { OnOk result ((before : List Call) → TakesIn rule self.old before → TakesIn rule self.new (before ++ call.now ∷ [])) }
         ensures fails { IfOk result (λ fails. (before : List Call) → TakesIn rule self.old before → fails ≡ fails_back rule before call.now) }
     {
@@ -94,12 +81,12 @@ impl<'c> Seen<'c> {
         }
     }
 
-    // Adds one more call to the edges and to the room. Answers whether an earlier edge of the same node clashes with its
-    // edge.
-    fn sum_up(&mut self, call: &'c BuilderCall) -> Result<bool, AllocError>
+    // Adds one more call to the edges and to the room. Answers whether an earlier edge of the same node clashes with
+    // its edge, other than as the same key of none or several bytes.
+    fn sum_up(&mut self, call: &BuilderCall) -> Result<bool, AllocError>
         ensures lower { OnOk result (self.new.lower ≡ self.old.lower) }
         ensures sums { OnOk result ((before : List Call) → SumsUp self.old before → SumsUp self.new (before ++ call.now ∷ [])) }
-        ensures clashes { IfOk result (λ clashes. (before : List Call) → SumsUp self.old before → clashes ≡ is_clash before call.now) }
+        ensures clashes { IfOk result (λ clashes. (before : List Call) → SumsUp self.old before → clashes ≡ is_short_clash before call.now) }
     {
         self.room = self.room.after(call);
         match call {
@@ -117,7 +104,7 @@ impl<'c> Seen<'c> {
     fn sum_up_byte(&mut self, how: ByteUse, byte: u8) -> bool
         ensures lower { self.new.lower ≡ self.old.lower }
         ensures sums { (before : List Call) (target : List ℕ) → SumsUp self.old before → SumsUp self.new (before ++ byte_call how target byte ∷ []) }
-        ensures clashes { (before : List Call) (target : List ℕ) → SumsUp self.old before → result ≡ is_clash before (byte_call how target byte) }
+        ensures clashes { (before : List Call) (target : List ℕ) → SumsUp self.old before → result ≡ is_short_clash before (byte_call how target byte) }
     {
         self.room = self.room.after_byte();
         self.edges.add_byte(how, byte)
@@ -161,31 +148,6 @@ impl<'c> Seen<'c> {
         ensures { (before : List Call) → SumsUp self.now before → result ≡ key_passes_limit_of before len }
     {
         64 < len || self.edges.keys.is_full() || self.room.weight <= len
-    }
-}
-
-// How many calls add a key of none or of several bytes.
-fn longer_keys(own: &[BuilderCall]) -> usize
-    ensures { result ≡ count_by adds_longer_key own.now }
-{
-    let mut count = 0;
-    for call in own {
-        if is_longer_key(call) {
-            count += 1;
-        }
-    }
-    count
-}
-
-fn is_longer_key(call: &BuilderCall) -> bool
-    ensures { result ≡ adds_longer_key call.now }
-{
-    match call {
-        BuilderCall::Edge {
-            edge: NamedEdge::Key { bytes, .. },
-            ..
-        } => bytes.items().len() != 1,
-        _ => false,
     }
 }
 

@@ -2,14 +2,14 @@
 ghost use Rattle.std.specs.Prelude.{◌≡◌, ◌||◌, ◌&&◌, ℕ, List, nat_lt, bytes_eq, IfOk, OnOk};
 ghost use Rattle.std.specs.List.{list_any};
 ghost use Rattle.pp_graph.specs.Rules.{is_value_fault as is_value_fault_of, is_value_node as is_value_node_of, kind_takes_value as kind_takes_value_of, code_takes_value as code_takes_value_of, adds_value_node, carries_number as carries_number_of, is_too_wide as is_too_wide_of, is_wide_kind as is_wide_kind_of, is_wide_code as is_wide_code_of, is_wide_edge as is_wide_edge_of, stores_narrow as stores_narrow_of};
-ghost use Rattle.pp_graph.specs.NameLists.{is_among};
-ghost use Rattle.pp_graph.specs.Lookups.{at_name, is_below};
+ghost use Rattle.pp_graph.specs.NameTables.{is_at, value_at};
+ghost use Rattle.pp_graph.specs.Lookups.{is_below as is_below_of};
 
 use crate::call::{BuilderCall, NamedCode, NamedEdge, NamedKind};
 use crate::declared::Declared;
 use crate::name::Name;
+use crate::name_table::NameTable;
 use crate::names::add_name;
-use indexmap::{IndexMap, IndexSet};
 use std::alloc::{AllocError, Global};
 use std::marker::Model;
 
@@ -18,8 +18,8 @@ use std::marker::Model;
 #[derive(Drop)]
 pub(crate) struct Values<'c> {
     declared: Declared<'c>,
-    value_nodes: IndexSet<Name>,
-    stores: IndexMap<Name, u64>,
+    value_nodes: NameTable<'c, ()>,
+    stores: NameTable<'c, u64>,
 }
 
 impl<'c> Model for Values<'c> {
@@ -31,7 +31,7 @@ impl<'c> Model for Values<'c> {
 
     ghost view = { λ v. v.declared };
 
-    ghost invariant = { λ v. IsNodeLookup v.declared v.value_nodes.keys v.stores.entries };
+    ghost invariant = { λ v. IsNodeLookup v.declared v.value_nodes v.stores };
 }
 
 impl<'c> Values<'c> {
@@ -40,8 +40,7 @@ impl<'c> Values<'c> {
         ensures { IfOk result (λ values. values ≡ calls.now) }
     {
         let declared = Declared::of(alloc, calls)?;
-        let value_nodes = value_nodes_of(alloc, &declared)?;
-        let stores = stores_of(alloc, &declared)?;
+        let (value_nodes, stores) = nodes_of(alloc, &declared)?;
         Ok(Values {
             declared,
             value_nodes,
@@ -56,21 +55,29 @@ impl<'c> Values<'c> {
         &self.declared
     }
 
-    // Whether some node of this name is an invoke of signature value. Mostly there is none, and no name need be hashed.
+    // Whether some node of this name is an invoke of signature value. Mostly there is none, and no name need be looked up.
     fn is_value_node(&self, name: &Name) -> bool
         ensures { result ≡ is_value_node_of self.now name.now }
     {
-        !self.value_nodes.is_empty() && self.value_nodes.contains(name)
+        !self.value_nodes.is_empty() && self.value_nodes.get(name).is_some()
     }
 
-    // Whether some node of this name stores into a property which can't hold the number.
+    // Whether some node of this name stores into a property which can't hold the number. Mostly no node stores, and no
+    // name need be looked up.
     fn is_stored_narrow(&self, name: &Name, number: u32) -> bool
         ensures { result ≡ list_any (stores_narrow_of self.now name.now number) self.now }
     {
-        match self.stores.get(name) {
-            Some(greatest) => *greatest < u64::from(number),
-            None => false,
-        }
+        !self.stores.is_empty() && is_below(self.stores.get(name), number)
+    }
+}
+
+// Whether what is stored at most, if anything is, is below the number.
+fn is_below(most: Option<u64>, number: u32) -> bool
+    ensures { result ≡ is_below_of most number }
+{
+    match most {
+        Some(most) => most < u64::from(number),
+        None => false,
     }
 }
 
@@ -168,55 +175,48 @@ fn is_wide_edge(values: &Values<'_>, edge: &NamedEdge, target: &Name) -> bool
     }
 }
 
-// The names of the nodes that are invokes of signature value.
-fn value_nodes_of(alloc: Global, declared: &Declared<'_>) -> Result<IndexSet<Name>, AllocError>
-    ensures { IfOk result (λ nodes. (name : List ℕ) → is_among nodes.keys name ≡ is_value_node_of declared.now name) }
+// The names of the nodes that are invokes of signature value; and, by the name, the least of the greatest values of the
+// properties that nodes store into.
+fn nodes_of<'c>(
+    alloc: Global,
+    declared: &Declared<'c>,
+) -> Result<(NameTable<'c, ()>, NameTable<'c, u64>), AllocError>
+    ensures takes { IfOk result (λ nodes. (name : List ℕ) → is_at nodes.0 name ≡ is_value_node_of declared.now name) }
+    ensures stores { IfOk result (λ nodes. (name : List ℕ) (number : ℕ) → is_below_of (value_at nodes.1 name) number ≡ list_any (stores_narrow_of declared.now name number) declared.now) }
 {
     let calls = declared.calls();
-    let mut nodes = IndexSet::new(alloc);
+    let mut value_nodes = NameTable::new(alloc);
+    let mut stores = NameTable::new(alloc);
     for call in calls {
-        add_value_node(&mut nodes, alloc, declared, call)?;
+        add_value_node(&mut value_nodes, declared, call)?;
+        add_store(&mut stores, declared, call)?;
     }
-    Ok(nodes)
+    Ok((value_nodes, stores))
 }
 
 // Adds the node of a call, if it is an invoke of signature value.
-fn add_value_node(
-    nodes: &mut IndexSet<Name>,
-    alloc: Global,
-    declared: &Declared<'_>,
-    call: &BuilderCall,
+fn add_value_node<'c>(
+    nodes: &mut NameTable<'c, ()>,
+    declared: &Declared<'c>,
+    call: &'c BuilderCall,
 ) -> Result<(), AllocError>
-    ensures { OnOk result ((name : List ℕ) → is_among nodes.new.keys name ≡ (is_among nodes.old.keys name || adds_value_node declared.now name call.now)) }
+    ensures { OnOk result ((name : List ℕ) → is_at nodes.new name ≡ (is_at nodes.old name || adds_value_node declared.now name call.now)) }
 {
     if let BuilderCall::Node { name, kind } = call {
         if kind_takes_value(declared, kind) {
-            add_name(nodes, alloc, name)?;
+            add_name(nodes, name)?;
         }
     }
     Ok(())
 }
 
-// The least of the greatest values of the properties that nodes of a name store, by the name.
-fn stores_of(alloc: Global, declared: &Declared<'_>) -> Result<IndexMap<Name, u64>, AllocError>
-    ensures { IfOk result (λ stores. (name : List ℕ) (number : ℕ) → is_below (at_name stores.entries name) number ≡ list_any (stores_narrow_of declared.now name number) declared.now) }
-{
-    let calls = declared.calls();
-    let mut stores = IndexMap::new(alloc);
-    for call in calls {
-        add_store(&mut stores, alloc, declared, call)?;
-    }
-    Ok(stores)
-}
-
 // Adds the node of a call, if it stores the carried number.
-fn add_store(
-    stores: &mut IndexMap<Name, u64>,
-    alloc: Global,
-    declared: &Declared<'_>,
-    call: &BuilderCall,
+fn add_store<'c>(
+    stores: &mut NameTable<'c, u64>,
+    declared: &Declared<'c>,
+    call: &'c BuilderCall,
 ) -> Result<(), AllocError>
-    ensures { OnOk result ((name : List ℕ) (number : ℕ) → is_below (at_name stores.new.entries name) number ≡ (is_below (at_name stores.old.entries name) number || stores_narrow_of declared.now name number call.now)) }
+    ensures { OnOk result ((name : List ℕ) (number : ℕ) → is_below_of (value_at stores.new name) number ≡ (is_below_of (value_at stores.old name) number || stores_narrow_of declared.now name number call.now)) }
 {
     if let BuilderCall::Node {
         name,
@@ -225,31 +225,21 @@ fn add_store(
         },
     } = call
     {
-        add_least(stores, alloc, name, declared.greatest_of(prop))?;
+        add_least(stores, name, declared.greatest_of(prop))?;
     }
     Ok(())
 }
 
 // Keeps the least of a name's numbers.
-fn add_least(
-    stores: &mut IndexMap<Name, u64>,
-    alloc: Global,
-    name: &Name,
+fn add_least<'c>(
+    stores: &mut NameTable<'c, u64>,
+    name: &'c Name,
     greatest: u64,
 ) -> Result<(), AllocError>
-    ensures { OnOk result ((other : List ℕ) (number : ℕ) → is_below (at_name stores.new.entries other) number ≡ (is_below (at_name stores.old.entries other) number || bytes_eq name.now other && nat_lt greatest number)) }
+    ensures { OnOk result ((other : List ℕ) (number : ℕ) → is_below_of (value_at stores.new other) number ≡ (is_below_of (value_at stores.old other) number || bytes_eq name.now other && nat_lt greatest number)) }
 {
-    let least = least_with(stores.get(name).copied(), greatest);
-    stores.insert(Name::new(alloc, name.bytes())?, least)?;
-    Ok(())
-}
-
-// The less of two numbers, if there are two.
-fn least_with(before: Option<u64>, greatest: u64) -> u64
-    ensures { (number : ℕ) → nat_lt result number ≡ (is_below before number || nat_lt greatest number) }
-{
-    match before {
-        Some(before) if before < greatest => before,
-        _ => greatest,
+    if let Some(before) = stores.set(name, greatest)? {
+        stores.set(name, before.min(greatest))?;
     }
+    Ok(())
 }

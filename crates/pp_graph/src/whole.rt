@@ -22,7 +22,7 @@ pub(crate) fn build(alloc: Global, declared: &Declared<'_>) -> Result<Graph, All
     ensures { IfOk result (λ graph. graph ≡ built declared.now) }
 {
     let calls = declared.calls();
-    let places = Places::of(declared);
+    let places = Places::of(alloc, declared)?;
     Ok(Graph::of(Parts {
         props: props_of(alloc, calls)?,
         hosts: hosts_of(alloc, calls)?,

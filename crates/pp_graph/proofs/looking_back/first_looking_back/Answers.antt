@@ -1,4 +1,4 @@
-use Rattle.std.proofs.Common.{◌+◌, [], Some, take, refl, sym, subst, arith}
+use Rattle.std.proofs.Common.{◌+◌, [], take, refl, sym, subst, arith}
 use Rattle.std.specs.Prelude.{None as none}
 use Rattle.std.specs.Prelude.{IsNone}
 use Rattle.pp_graph.specs.Sets.{all_calls, spread}
@@ -6,7 +6,7 @@ use Rattle.pp_graph.specs.Least.{IsLeast}
 use Rattle.pp_graph.specs.Seen.{TakesIn, FailsBehind}
 use Rattle.pp_graph.proofs.LeastLemmas.{IsLeast-none}
 use Rattle.pp_graph.proofs.SetLemmas.{length-sets, set-at, all-more, number-is, number-le}
-use Rattle.pp_graph.proofs.LookingBackLemmas.{least-of-all, least-within, sets-found, sets-kept, sets-all}
+use Rattle.pp_graph.proofs.LookingBackLemmas.{least-within, sets-found, sets-kept, sets-all}
 use Rattle.pp_graph.proofs.looking_back.first_looking_back.Goals as goal
 
 pub loop-i-init : goal.loop-i-init
@@ -15,8 +15,8 @@ loop-i-init c = (c.new-seen.ensures c.args.rule, IsLeast-none (FailsBehind c.arg
 pub bounds-sets-i : goal.bounds-sets-i
 bounds-sets-i c = omega (arith, length-sets c.args.calls.now c.args.sets.now c.requires.sets)
 
-pub first_of_kept-requires-clause-set : goal.first_of_kept-requires-clause-set
-first_of_kept-requires-clause-set c =
+pub first_of_kept-requires : goal.first_of_kept-requires
+first_of_kept-requires c =
     set-at c.args.calls.now c.args.sets.now c.loop-i.i c.index-calls-i.result c.index-sets-i.result c.requires.sets (omega arith) c.index-calls-i.is c.index-sets-i.is
 
 pub number_of-requires-clause-within : goal.number_of-requires-clause-within
@@ -35,8 +35,7 @@ overflow_add-result c =
 pub returns-in-Some : goal.returns-in-Some
 returns-in-Some c =
     let first = all_calls (take c.loop-i.i c.args.calls.now) (take c.loop-i.i c.args.sets.now) in
-    let least = sets-found c.args.rule c.args.calls.now c.args.sets.now c.loop-i.i c.in-Some.rank c.number_of.result c.index-calls-i.result c.index-sets-i.result c.in_ok-rank.field-0 c.requires.sets (omega arith) c.index-calls-i.is c.index-sets-i.is c.number_of.ensures c.loop-i.invariant.1 (c.in_ok-rank.ensures.fails first c.loop-i.invariant.0) c.in-Some.is in
-    least-of-all c.args.rule (all_calls c.args.calls.now c.args.sets.now) (Some (c.number_of.result + c.in-Some.rank)) c.requires.rule least
+    sets-found c.args.rule c.args.calls.now c.args.sets.now c.loop-i.i c.in-Some.rank c.number_of.result c.index-calls-i.result c.index-sets-i.result c.in_ok-rank.field-0 c.requires.sets (omega arith) c.index-calls-i.is c.index-sets-i.is c.number_of.ensures c.loop-i.invariant.1 (c.in_ok-rank.ensures.fails first c.loop-i.invariant.0) c.in-Some.is
 
 pub loop-i-preserved : goal.loop-i-preserved
 loop-i-preserved c =
@@ -45,9 +44,9 @@ loop-i-preserved c =
     let kept : IsLeast (FailsBehind c.args.rule first few) none = subst (IsLeast (FailsBehind c.args.rule first few)) c.in_default.is (c.in_ok-rank.ensures.fails first c.loop-i.invariant.0) in
     let more = all-more c.args.calls.now c.args.sets.now c.loop-i.i c.index-calls-i.result c.index-sets-i.result c.requires.sets (omega arith) c.index-calls-i.is c.index-sets-i.is in
     let nowhere : IsNone c.in_ok-rank.field-0 = subst IsNone (sym c.in_default.is) refl in
-    (subst (TakesIn c.args.rule c.make_room.new.seen) (sym more) (c.in_ok-make_room.ensures _ (c.in_ok-rank.ensures.taken nowhere first c.loop-i.invariant.0)), sets-kept c.args.rule c.args.calls.now c.args.sets.now c.loop-i.i c.index-calls-i.result c.index-sets-i.result c.requires.sets (omega arith) c.index-calls-i.is c.index-sets-i.is c.loop-i.invariant.1 kept)
+    (subst (TakesIn c.args.rule c.first_of_kept.new.seen) (sym more) (c.in_ok-rank.ensures.taken nowhere first c.loop-i.invariant.0), sets-kept c.args.rule c.args.calls.now c.args.sets.now c.loop-i.i c.index-calls-i.result c.index-sets-i.result c.requires.sets (omega arith) c.index-calls-i.is c.index-sets-i.is c.loop-i.invariant.1 kept)
 
 pub returns : goal.returns
 returns c =
     let all = sets-all c.args.calls.now c.args.sets.now c.loop-i.i c.requires.sets (omega arith) in
-    least-of-all c.args.rule (all_calls c.args.calls.now c.args.sets.now) none c.requires.rule (subst (λ xs. IsLeast (FailsBehind c.args.rule [] xs) none) all c.loop-i.invariant.1)
+    subst (λ xs. IsLeast (FailsBehind c.args.rule [] xs) none) all c.loop-i.invariant.1

@@ -12,7 +12,7 @@ use Rattle.pp_graph.proofs.looking_back.first_of_kept.Goals.{in_default-via-in-S
 -- the calls of a kept one with a set are the edges of its bytes
 edges : (c : goal.After-first_of_set) → (target : List ℕ) × (spread c.args.call.now c.args.set.now ≡ map (byte_call c.in-Some-Some.how target) (bytes_of c.in-Some-Some.bytes))
 edges c =
-    spread-use c.args.call.now c.args.set.now c.in-Some-Some.bytes c.in-Some-Some.how c.requires.set c.in-Some-Some.is-0 (λ other target b e. (subst (λ u. IsSomeAnd u (λ r. (r.0 ≡ other) × (r.1.now ≡ target))) c.in-Some-Some.is-1 (c.use_of.ensures other target b e)).0)
+    spread-use c.args.call.now c.args.set.now c.in-Some-Some.bytes c.in-Some-Some.how c.requires c.in-Some-Some.is-0 (λ other target b e. (subst (λ u. IsSomeAnd u (λ r. (r.0 ≡ other) × (r.1.now ≡ target))) c.in-Some-Some.is-1 (c.use_of.ensures other target b e)).0)
 
 pub returns-in-Some-Some-clause-fails : goal.returns-in-Some-Some-clause-fails
 returns-in-Some-Some-clause-fails c before s =
@@ -26,7 +26,7 @@ returns-in-Some-Some-clause-taken c none before s =
 alone : (c : goal.After-first_of_one) → spread c.args.call.now c.args.set.now ≡ c.args.call.now ∷ []
 alone c = elim c.in_default.branch [
   | in_default-via-in-Some+in_default w ↦
-      let set = subst (IsSetOf c.args.call.now) w.in_default.is-0 c.requires.set in
+      let set = subst (IsSetOf c.args.call.now) w.in_default.is-0 c.requires in
       absurd (subst (λ u. IsSomeAnd u (λ r. (r.0 ≡ set.0) × (r.1.now ≡ set.1))) w.in_default.is-1 (c.use_of.ensures set.0 set.1 set.2 set.3))
   | in_default-via-in_default w ↦ ap (spread c.args.call.now) w.in_default.is-0
 ]

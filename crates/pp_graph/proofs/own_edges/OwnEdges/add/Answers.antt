@@ -1,6 +1,7 @@
-use Rattle.std.proofs.Common.{ap, ◌∙◌, ◌==◌, sym, subst, refl}
+use Rattle.std.proofs.Common.{ap, ◌∙◌, sym, subst, refl}
 use Rattle.std.proofs.Math.Bool.{not, not-not}
-use Rattle.std.specs.List.{list_any}
+use Rattle.std.specs.BTreeSet.{contains}
+use Rattle.std.specs.Ordering.{nat_cmp}
 use Rattle.pp_graph.proofs.OwnEdgeLemmas.{HasMore, Tells, clash-answer, clash-otherwise, push-answer, push-otherwise}
 use Rattle.pp_graph.proofs.own_edges.OwnEdges.add.Goals as goal
 
@@ -9,11 +10,11 @@ returns-in-Peek-clause-clashes c own h = subst (Tells c.add_peek.result own) (sy
 
 pub returns-in_ok-is_new-in-Answer-clause-added : goal.returns-in_ok-is_new-in-Answer-clause-added
 returns-in_ok-is_new-in-Answer-clause-added c own h =
-    subst (HasMore _ own) (sym c.in-Answer.is) (push-answer c.args.self.now _ own c.in-Answer.number refl refl c.in_ok-is_new-in-Answer.ensures.keys h)
+    subst (HasMore _ own) (sym c.in-Answer.is) (push-answer c.args.self.now _ own c.in-Answer.number refl refl c.in_ok-is_new-in-Answer.ensures.updates h)
 
 pub returns-in_ok-is_new-in-Answer-clause-clashes : goal.returns-in_ok-is_new-in-Answer-clause-clashes
 returns-in_ok-is_new-in-Answer-clause-clashes c own h =
-    subst (Tells (not c.in_ok-is_new-in-Answer.is_new) own) (sym c.in-Answer.is) (ap not c.in_ok-is_new-in-Answer.ensures.added ∙ not-not (list_any (λ m. c.in-Answer.number == m) c.args.self.now.answers.keys) ∙ h.answers c.in-Answer.number ∙ clash-answer own c.in-Answer.number)
+    subst (Tells (not c.in_ok-is_new-in-Answer.is_new) own) (sym c.in-Answer.is) (ap not c.in_ok-is_new-in-Answer.ensures.added ∙ not-not (contains nat_cmp c.args.self.now.answers c.in-Answer.number) ∙ h.answers c.in-Answer.number ∙ clash-answer own c.in-Answer.number)
 
 pub returns-in-Otherwise-clause-added : goal.returns-in-Otherwise-clause-added
 returns-in-Otherwise-clause-added c own h =

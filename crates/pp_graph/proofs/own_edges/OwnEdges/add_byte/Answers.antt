@@ -1,7 +1,7 @@
 use Rattle.std.proofs.Common.{◌∷◌, [], filter_map, ap, ◌∙◌, sym, subst, refl}
 use Rattle.pp_graph.specs.Rules.{key_of_edge}
 use Rattle.pp_graph.specs.Sets.{byte_edge}
-use Rattle.pp_graph.proofs.OwnEdgeLemmas.{HasMore, Tells, clash-key, clash-as-key, or_then, or_else, push-key}
+use Rattle.pp_graph.proofs.OwnEdgeLemmas.{HasMore, Tells, clash-byte, clash-as-key, or_then, or_else, push-key}
 use Rattle.pp_graph.proofs.own_edges.OwnEdges.add_byte.Goals as goal
 
 pub returns-in-Peek-clause-added : goal.returns-in-Peek-clause-added
@@ -19,7 +19,7 @@ returns-then-add_byte-clause-added c own h =
 pub returns-then-add_byte-clause-clashes : goal.returns-then-add_byte-clause-clashes
 returns-then-add_byte-clause-clashes c own h =
     subst (λ how. Tells c.add_byte.result own (byte_edge how c.args.byte)) (sym c.in-Key.is)
-    (or_then c.add_byte.result _ _ _ c.if-add_byte.true (c.add_byte.ensures.there (filter_map key_of_edge own) h.keys) (clash-key c.args.self.now own (c.args.byte ∷ []) h ∙ clash-as-key own (c.args.byte ∷ []) c.in-Key.number))
+    (or_then c.add_byte.result _ _ _ c.if-add_byte.true (c.add_byte.ensures.there (filter_map key_of_edge own) h.keys) (clash-byte c.args.self.now own c.args.byte h ∙ clash-as-key own (c.args.byte ∷ []) c.in-Key.number))
 
 pub returns-else-add_byte-clause-added : goal.returns-else-add_byte-clause-added
 returns-else-add_byte-clause-added c own h =
@@ -28,4 +28,4 @@ returns-else-add_byte-clause-added c own h =
 pub returns-else-add_byte-clause-clashes : goal.returns-else-add_byte-clause-clashes
 returns-else-add_byte-clause-clashes c own h =
     subst (λ how. Tells c.has.result own (byte_edge how c.args.byte)) (sym c.in-Key.is)
-    (or_else c.add_byte.result c.has.result _ _ _ c.if-add_byte.false (c.add_byte.ensures.there (filter_map key_of_edge own) h.keys) c.has.ensures (clash-key c.args.self.now own (c.args.byte ∷ []) h ∙ clash-as-key own (c.args.byte ∷ []) c.in-Key.number))
+    (or_else c.add_byte.result c.has.result _ _ _ c.if-add_byte.false (c.add_byte.ensures.there (filter_map key_of_edge own) h.keys) c.has.ensures (clash-byte c.args.self.now own c.args.byte h ∙ clash-as-key own (c.args.byte ∷ []) c.in-Key.number))

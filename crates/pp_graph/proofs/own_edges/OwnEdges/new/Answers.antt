@@ -1,6 +1,7 @@
-use Rattle.std.proofs.Common.{ap, ◌∙◌, ◌==◌}
+use Rattle.std.proofs.Common.{ap, ◌∙◌}
 use Rattle.std.specs.List.{list_any}
 use Rattle.std.specs.FinSet.{contains, contains-empty}
+use Rattle.std.specs.BTreeMap.{is_at}
 use Rattle.std.specs.Ordering.{nat_cmp}
 use Rattle.pp_graph.proofs.own_edges.OwnEdges.new.Goals as goal
 
@@ -8,5 +9,5 @@ pub returns : goal.returns
 returns c = record {
   keys = c.new.ensures;
   peeks = λ b. ap (λ s. contains s b) c.new-2.ensures ∙ contains-empty nat_cmp b;
-  answers = λ n. ap (list_any (λ m. n == m)) c.new-3.ensures.empty;
+  answers = λ n. ap (list_any (is_at (nat_cmp n))) c.new-3.ensures.empty;
 }

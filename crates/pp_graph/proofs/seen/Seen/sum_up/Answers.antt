@@ -1,6 +1,7 @@
 use Rattle.std.proofs.Common.{refl, ap, sym, ◌∙◌}
 use Rattle.std.proofs.lemmas.Result.{on_ok_weaker, IfOk-weaker}
-use Rattle.pp_graph.specs.Rules.{edges_of, edge_of, clashes_with_any}
+use Rattle.pp_graph.specs.Rules.{edges_of, edge_of}
+use Rattle.pp_graph.specs.Clashes.{any_with, short_clash}
 use Rattle.pp_graph.proofs.SeenLemmas.{push-node, push-edge, push-other}
 use Rattle.pp_graph.proofs.seen.Seen.sum_up.Goals as goal
 
@@ -14,7 +15,7 @@ returns-in-Edge-clause-sums c =
 
 pub returns-in-Edge-clause-clashes : goal.returns-in-Edge-clause-clashes
 returns-in-Edge-clause-clashes c =
-    IfOk-weaker c.add.result _ _ (λ clashes tells before h. tells (edges_of before) h.edges ∙ ap (λ d. clashes_with_any (edges_of before) (edge_of d)) (sym c.in-Edge.is)) c.add.ensures.clashes
+    IfOk-weaker c.add.result _ _ (λ clashes tells before h. tells (edges_of before) h.edges ∙ ap (λ d. any_with short_clash (edges_of before) (edge_of d)) (sym c.in-Edge.is)) c.add.ensures.clashes
 
 pub returns-in_default-clause-sums : goal.returns-in_default-clause-sums
 returns-in_default-clause-sums c before h =

@@ -1,0 +1,46 @@
+-- A key clash by its parts: equal keys that sorting brings together, and all other clashes, which are told edge by edge.
+use Rattle.std.specs.Prelude.{ℕ, List, Option, Some, Bool, false, ◌&&◌, ◌==◌, not, length, take, slice_get, bytes_eq, IsTrue, IsSomeAnd}
+use Rattle.std.specs.Prelude.{None as none}
+use Rattle.std.specs.List.{list_any}
+use Rattle.pp_graph.specs.declared.call.NamedEdge.{NamedEdge}
+use Rattle.pp_graph.specs.declared.call.NamedEdge.TheVariants as edge
+use Rattle.pp_graph.specs.declared.call.BuilderCall.{BuilderCall}
+use Rattle.pp_graph.specs.Rules.{edge_of, edges_of, begins_with_byte}
+
+-- two keys are equal, and have not one byte
+abbrev pub same_longer : NamedEdge → NamedEdge → Bool
+same_longer (edge.Key bytes number) (edge.Key other n) = bytes_eq bytes other && not (length other == 1)
+same_longer a b = false
+
+-- two edges clash, and are not such keys
+abbrev pub short_clash : NamedEdge → NamedEdge → Bool
+short_clash (edge.Key bytes number) (edge.Key other n) = bytes_eq bytes other && length other == 1
+short_clash (edge.Key bytes number) (edge.Peek byte) = begins_with_byte byte bytes
+short_clash (edge.Key bytes number) (edge.Answer n) = false
+short_clash (edge.Key bytes number) (edge.Otherwise skip) = false
+short_clash (edge.Peek byte) (edge.Key bytes number) = begins_with_byte byte bytes
+short_clash (edge.Peek byte) (edge.Peek other) = byte == other
+short_clash (edge.Peek byte) (edge.Answer n) = false
+short_clash (edge.Peek byte) (edge.Otherwise skip) = false
+short_clash (edge.Answer number) (edge.Key bytes n) = false
+short_clash (edge.Answer number) (edge.Peek byte) = false
+short_clash (edge.Answer number) (edge.Answer other) = number == other
+short_clash (edge.Answer number) (edge.Otherwise skip) = false
+short_clash (edge.Otherwise skip) other = false
+
+-- one of these edges passes a test with the edge of a call, if it adds one
+abbrev pub any_with : (NamedEdge → NamedEdge → Bool) → List NamedEdge → Option NamedEdge → Bool
+any_with test edges none = false
+any_with test edges (Some when) = list_any (λ e. test e when) edges
+
+-- an earlier edge of the same node clashes with it, and is not the same longer key
+abbrev pub is_short_clash : List BuilderCall → BuilderCall → Bool
+is_short_clash before c = any_with short_clash (edges_of before) (edge_of c)
+
+-- it adds a key that has not one byte, as an earlier call of the same node does
+abbrev pub comes_again : List BuilderCall → BuilderCall → Bool
+comes_again before c = any_with same_longer (edges_of before) (edge_of c)
+
+-- the call of this number does
+abbrev pub ComesAgainAt : List BuilderCall → ℕ → Type 0
+ComesAgainAt calls i = IsSomeAnd (slice_get calls i) (λ c. IsTrue (comes_again (take i calls) c))
