@@ -76,6 +76,7 @@ key-edge (Some (edge.Peek byte)) bytes s = absurd cc
 key-edge (Some (edge.Answer number)) bytes s = absurd cc
 key-edge (Some (edge.Otherwise skip)) bytes s = absurd cc
 
+-- the test of a length, both ways
 not-one : (n : ℕ) → not (n == 1) ≡ true → n ≢ 1
 not-one n h = grind (arith, nat_tests)
 
@@ -113,6 +114,7 @@ again-here before after c f =
     subst (λ o. IsSomeAnd o (λ d. IsTrue (comes_again before d))) (slice_get-split before c after)
     (subst (λ b. IsSomeAnd (slice_get all n) (λ d. IsTrue (comes_again b d))) (take_at before (c ∷ after) n refl) f)
 
+-- and the other way round
 here-again : (before after : List BuilderCall) (c : BuilderCall) → comes_again before c ≡ true → ComesAgainAt (before ++ c ∷ after) (length before)
 here-again before after c f =
     let all = before ++ c ∷ after in
@@ -120,6 +122,7 @@ here-again before after c f =
     subst (λ b. IsSomeAnd (slice_get all n) (λ d. IsTrue (comes_again b d))) (sym (take_at before (c ∷ after) n refl))
     (subst (λ o. IsSomeAnd o (λ d. IsTrue (comes_again before d))) (sym (slice_get-split before c after)) f)
 
+-- the call is one of all
 again-within : (calls : List BuilderCall) (m : ℕ) → ComesAgainAt calls m → m < length calls
 again-within calls m f =
     elim (cases_lt m (length calls)) [
@@ -127,12 +130,14 @@ again-within calls m f =
       | inr past ↦ absurd (subst (λ o. IsSomeAnd o (λ c. IsTrue (comes_again (take m calls) c))) (slice_get_past calls m past) f)
     ]
 
+-- and adds no node
 again-node : (calls : List BuilderCall) (i : ℕ) (c : BuilderCall) → i < length calls → c ≡ get_or calls i c → is_node c ≡ true → ComesAgainAt calls i → ⊥
 again-node calls i c h e n f =
     let at : slice_get calls i ≡ Some c = slice_get_read calls (length calls) i c refl h e in
     let again : comes_again (take i calls) c ≡ true = subst (λ o. IsSomeAnd o (λ d. IsTrue (comes_again (take i calls) d))) at f in
     false≢true (sym (ap (any_with same_longer (edges_of (take i calls))) (node-edge c n)) ∙ again)
 
+-- among those of its node it is one of them
 again-below : (own : List BuilderCall) (m : ℕ) → IsAgainAt own m → m < length own
 again-below own m (q, (key, at, many, p, low, there, e)) = let h : q < length own = key-below own q key at in omega arith
 

@@ -12,32 +12,28 @@ use Rattle.pp_graph.specs.Clashes.{same_longer, short_clash, any_with, is_short_
 use Rattle.pp_graph.specs.Least.{IsLeast, lesser}
 use Rattle.pp_graph.proofs.LeastLemmas.{IsLeast-lesser}
 use Rattle.pp_graph.proofs.KeyLemmas.{or-true, or-left, or-right, and-no}
-use Rattle.pp_graph.proofs.EachLemmas.{or_false}
 use Rattle.pp_graph.proofs.OwnEdgeLemmas.{any-split}
 
-either : (a b : Bool) → a ≡ (a && b || a && not b)
+-- equal keys have one byte or not
+either : (a b : Bool) → a ≡ (a && not (a && not b) || a && not b)
 either true true = refl
 either true false = refl
 either false b = refl
 
+-- other edges are no equal keys
+other : (a : Bool) → a ≡ (a && true || false)
+other true = refl
+other false = refl
+
 -- two edges clash as the parts of the rule say
 clash-parts : (e when : NamedEdge) → edges_clash e when ≡ (short_clash e when || same_longer e when)
-clash-parts (edge.Key bytes number) (edge.Key other n) = either (bytes_eq bytes other) (length other == 1)
-clash-parts (edge.Key bytes number) (edge.Peek byte) = sym (or_false (begins_with_byte byte bytes))
+clash-parts (edge.Key bytes number) (edge.Key key n) = either (bytes_eq bytes key) (length key == 1)
+clash-parts (edge.Key bytes number) (edge.Peek byte) = other (begins_with_byte byte bytes)
 clash-parts (edge.Key bytes number) (edge.Answer n) = refl
 clash-parts (edge.Key bytes number) (edge.Otherwise skip) = refl
-clash-parts (edge.Peek byte) (edge.Key bytes number) = sym (or_false (begins_with_byte byte bytes))
-clash-parts (edge.Peek byte) (edge.Peek other) = sym (or_false (byte == other))
-clash-parts (edge.Peek byte) (edge.Answer n) = refl
-clash-parts (edge.Peek byte) (edge.Otherwise skip) = refl
-clash-parts (edge.Answer number) (edge.Key bytes n) = refl
-clash-parts (edge.Answer number) (edge.Peek byte) = refl
-clash-parts (edge.Answer number) (edge.Answer other) = sym (or_false (number == other))
-clash-parts (edge.Answer number) (edge.Otherwise skip) = refl
-clash-parts (edge.Otherwise skip) (edge.Key bytes number) = refl
-clash-parts (edge.Otherwise skip) (edge.Peek byte) = refl
-clash-parts (edge.Otherwise skip) (edge.Answer n) = refl
-clash-parts (edge.Otherwise skip) (edge.Otherwise s) = refl
+clash-parts (edge.Peek byte) when = other (edges_clash (edge.Peek byte) when)
+clash-parts (edge.Answer number) when = other (edges_clash (edge.Answer number) when)
+clash-parts (edge.Otherwise skip) when = refl
 
 -- so does one of some edges
 parts : (edges : List NamedEdge) (o : Option NamedEdge) → clashes_with_any edges o ≡ (any_with short_clash edges o || any_with same_longer edges o)
@@ -49,6 +45,7 @@ parts edges (Some when) =
 abbrev IsShortAt : List BuilderCall → ℕ → Type 0
 IsShortAt all i = IsSomeAnd (slice_get all i) (λ c. IsTrue (is_short_clash (take i all) c))
 
+-- such a clash and a longer key that comes again are clashes, and there are no others
 module _ (all : List BuilderCall) (i : ℕ) where
   abbrev edges : List NamedEdge
   edges = edges_of (take i all)
@@ -65,6 +62,7 @@ module _ (all : List BuilderCall) (i : ℕ) where
   of-clash none h = absurd (false≢true (sym (and-no (i == length all)) ∙ h))
   of-clash (Some c) h = or-true (is_short_clash (take i all) c) (comes_again (take i all) c) (sym (parts edges (edge_of c)) ∙ h)
 
+-- the first clash is the earlier of the first of both
 pub least-clash : (all : List BuilderCall) (short again : Option ℕ) → IsLeast (IsShortAt all) short → IsLeast (ComesAgainAt all) again → IsLeast (FailsAt KeyClash all) (lesser short again)
 least-clash all short again =
     IsLeast-lesser (IsShortAt all) (ComesAgainAt all) (FailsAt KeyClash all) short again (λ i. of-short all i (slice_get all i)) (λ i. of-again all i (slice_get all i)) (λ i. of-clash all i (slice_get all i))

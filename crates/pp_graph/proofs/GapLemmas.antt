@@ -117,13 +117,14 @@ gap-below own m (q, (long, at, p, (short, below, gap), e)) =
     let b : p < length own = key-below own p short below in
     omega arith
 
--- so the rule is one of calls by their node
+-- no call that adds a node leaves a gap
 gap-node : (calls : List BuilderCall) (i : ℕ) (c : BuilderCall) → i < length calls → c ≡ get_or calls i c → is_node c ≡ true → FailsAt PrefixGap calls i → ⊥
 gap-node calls i c h e n f =
     let before = since_node (take i calls) in
     let at = fails_at-within PrefixGap calls i c h e in
     false≢true (sym (ap (gaps_with_any (keys_of (before ++ c ∷ own_calls (drop (i + 1) calls))) (keys_of before)) (node-edge c n)) ∙ sym at ∙ f)
 
+-- and none behind the last
 gap-within : (calls : List BuilderCall) (m : ℕ) → FailsAt PrefixGap calls m → m < length calls
 gap-within calls m f =
     elim (cases_lt m (length calls)) [
@@ -131,10 +132,12 @@ gap-within calls m f =
       | inr past ↦ absurd (false≢true (sym (ap (fails_at_call PrefixGap calls m) (slice_get_past calls m past) ∙ and-no (m == length calls)) ∙ f))
     ]
 
+-- what the rule says at a call, by the calls of its node before it
 gap-here : (before front after : List BuilderCall) (c : BuilderCall) → since_node before ≡ front → fails_at PrefixGap (before ++ c ∷ after) (length before) ≡ gaps_with_any (keys_of (front ++ c ∷ own_calls after)) (keys_of front) (edge_of c)
 gap-here before front after c e =
     fails_at-split PrefixGap before c after ∙ ap (λ x. gaps_with_any (keys_of (x ++ c ∷ own_calls after)) (keys_of x) (edge_of c)) e
 
+-- so it is a fact of calls by their node
 pub gap-by_node : IsByNode (FailsAt PrefixGap) IsGapAt
 gap-by_node = record {
   within = gap-within;

@@ -1,5 +1,5 @@
 -- Where the rules that look back fail: among a few calls behind others, and among the edges of a set.
-use Rattle.std.proofs.Common.{◌≡◌, ℕ, zero, suc, ◌+◌, ◌-◌, ◌<◌, ◌≤◌, List, [], ◌∷◌, ◌++◌, true, false, Option, Some, option_map, length, slice_get, take, drop, map, get_or, refl, ap, ap₂, sym, ◌∙◌, inl, inr, subst, arith, append_assoc}
+use Rattle.std.proofs.Common.{◌≡◌, ℕ, zero, suc, ◌+◌, ◌-◌, ◌<◌, ◌≤◌, List, [], ◌∷◌, ◌++◌, true, false, Option, Some, option_map, length, slice_get, take, drop, map, get_or, refl, ap, ap₂, sym, ◌∙◌, ◌⊎◌, inl, inr, subst, arith, append_assoc}
 use Rattle.std.specs.Prelude.{None as none}
 use Rattle.std.specs.Prelude.{IsSomeAnd, IsTrue, ◌==◌, sum_by}
 use Rattle.std.specs.List.{filter}
@@ -13,12 +13,12 @@ use Rattle.pp_bytes.proofs.ByteLemmas.{bytes_split, bytes_below_yes, bytes_below
 use Rattle.pp_graph.specs.declared.call.BuilderCall.{BuilderCall}
 use Rattle.pp_graph.specs.declared.calls.ByteUse.{ByteUse}
 use Rattle.pp_graph.specs.declared.fault.GraphRule.{GraphRule}
-use Rattle.pp_graph.specs.declared.fault.GraphRule.TheVariants.{DuplicateName, UnknownName, NoEntry, NoOtherwise, KeyClash, PrefixGap, ValueTarget, ValueTooWide, EmptyKey, KeyNotFolded, TooMany}
+use Rattle.pp_graph.specs.declared.fault.GraphRule.TheVariants.{KeyNotFolded, TooMany}
 use Rattle.pp_graph.specs.declared.seen.Seen.{Seen}
 use Rattle.pp_graph.specs.Rules.{fails, fails_at_end, fails_at_call, FailsAt}
 use Rattle.pp_graph.specs.Sets.{byte_call, spread, all_calls, IsSetOf, AreSets, size_of}
 use Rattle.pp_graph.specs.Least.{IsLeast}
-use Rattle.pp_graph.specs.Seen.{TakesIn, IsToldBack, FailsBehind, fails_back}
+use Rattle.pp_graph.specs.Seen.{TakesIn, FailsBehind, fails_back}
 use Rattle.pp_graph.proofs.LeastLemmas.{IsLeast-none, IsLeast-some, IsLeast-same, IsLeast-image}
 use Rattle.pp_graph.proofs.SetLemmas.{spread-set, length-sets, all-more, all-split, all-drop, number-is}
 
@@ -26,18 +26,12 @@ use Rattle.pp_graph.proofs.SetLemmas.{spread-set, length-sets, all-more, all-spl
 abbrev AsksBefore : GraphRule → Type 0
 AsksBefore rule = ((all before : List BuilderCall) (c : BuilderCall) (after : List BuilderCall) → fails rule all before c after ≡ fails_back rule before c) × ((all : List BuilderCall) → fails_at_end rule all ≡ false)
 
-asks-before : (rule : GraphRule) → IsToldBack rule → AsksBefore rule
-asks-before DuplicateName h = absurd h
-asks-before UnknownName h = absurd h
-asks-before NoEntry h = absurd h
-asks-before NoOtherwise h = absurd h
-asks-before KeyClash h = absurd h
-asks-before PrefixGap h = absurd h
-asks-before ValueTarget h = absurd h
-asks-before ValueTooWide h = absurd h
-asks-before EmptyKey h = absurd h
-asks-before KeyNotFolded h = (λ all before c after. refl, λ all. refl)
-asks-before TooMany h = (λ all before c after. refl, λ all. refl)
+-- as these two do
+asks-before : (rule : GraphRule) → (rule ≡ KeyNotFolded) ⊎ (rule ≡ TooMany) → AsksBefore rule
+asks-before rule h = elim h [
+  | inl e ↦ subst AsksBefore (sym e) (λ all before c after. refl, λ all. refl)
+  | inr e ↦ subst AsksBefore (sym e) (λ all before c after. refl, λ all. refl)
+]
 
 -- the rule fails at this call, if it is there, behind these
 abbrev FailsWith : GraphRule → Option BuilderCall → List BuilderCall → Type 0
@@ -55,7 +49,7 @@ from-with rule all p none asks h = absurd h
 from-with rule all p (Some c) asks h = asks.0 all (take p all) c (drop (suc p) all) ∙ h
 
 -- among all calls such a rule fails as among a few behind none
-pub least-of-all : (rule : GraphRule) (all : List BuilderCall) (found : Option ℕ) → IsToldBack rule → IsLeast (FailsBehind rule [] all) found → IsLeast (FailsAt rule all) found
+pub least-of-all : (rule : GraphRule) (all : List BuilderCall) (found : Option ℕ) → (rule ≡ KeyNotFolded) ⊎ (rule ≡ TooMany) → IsLeast (FailsBehind rule [] all) found → IsLeast (FailsAt rule all) found
 least-of-all rule all found h =
     let asks = asks-before rule h in
     IsLeast-same (FailsBehind rule [] all) (FailsAt rule all) found (λ p. from-with rule all p (slice_get all p) asks) (λ p. to-with rule all p (slice_get all p) asks)

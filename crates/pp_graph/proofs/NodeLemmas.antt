@@ -26,6 +26,7 @@ pub since-node : (before : List BuilderCall) (c : BuilderCall) → is_node c ≡
 since-node before c h =
     fold_push since_after [] before c ∙ ap (λ b. if b then [] else since_node before ++ c ∷ []) h
 
+-- and any other call goes on
 since-call : (before : List BuilderCall) (c : BuilderCall) → is_node c ≡ false → since_node (before ++ c ∷ []) ≡ since_node before ++ c ∷ []
 since-call before c h =
     fold_push since_after [] before c ∙ ap (λ b. if b then [] else since_node before ++ c ∷ []) h
@@ -103,12 +104,15 @@ module _ (Among Own : List BuilderCall → ℕ → Type 0) (by : IsByNode Among 
   whole : (before rest : List BuilderCall) (j : ℕ) (s : IsSplit rest j) → before ++ rest ≡ (before ++ s.front) ++ s.here ∷ s.after
   whole before rest j s = ap (λ x. before ++ x) s.whole ∙ sym (append_assoc before s.front (s.here ∷ s.after))
 
+  -- its number
   size : (before rest : List BuilderCall) (j : ℕ) (s : IsSplit rest j) → length before + j ≡ length (before ++ s.front)
   size before rest j s = ap (λ n. length before + n) (sym s.size) ∙ sym (length-append before s.front)
 
+  -- and the calls of its node before it
   seen : (before rest : List BuilderCall) (j : ℕ) → since_node before ≡ [] → (s : IsSplit rest j) → since_node (before ++ s.front) ≡ s.front
   seen before rest j e s = since-append before s.front s.plain ∙ ap (λ x. x ++ s.front) e
 
+  -- what holds of it among all calls holds of it among those of its node, and the other way round
   own-of_among : (before rest : List BuilderCall) (j : ℕ) → since_node before ≡ [] → j < length (own_calls rest) → Among (before ++ rest) (length before + j) → Own (own_calls rest) j
   own-of_among before rest j e h f =
       let s = split-own rest j h in

@@ -1,5 +1,5 @@
 -- The edges of one node in tables: one edge more, and a clash with one more.
-use Rattle.std.proofs.Common.{◌≡◌, ℕ, List, [], ◌∷◌, ◌++◌, Bool, true, false, ◌||◌, ◌&&◌, ◌==◌, cond, length, filter_map, Option, refl, ap, ap₂, sym, ◌∙◌, subst}
+use Rattle.std.proofs.Common.{◌≡◌, ℕ, List, [], ◌∷◌, ◌++◌, Bool, true, false, not, ◌||◌, ◌&&◌, ◌==◌, cond, length, filter_map, Option, refl, ap, ap₂, sym, ◌∙◌, subst}
 use Rattle.std.specs.Prelude.{bytes_eq}
 use Rattle.std.specs.List.{list_any}
 use Rattle.std.specs.FinSet.{contains, insert}
@@ -188,13 +188,19 @@ pub clash-byte : (table : OwnEdges) (own : List NamedEdge) (b : ℕ) → HasEdge
 clash-byte table own b h =
     ap (λ (t : Bool). t || contains table.peeks b) (sym (and-true (is_key (filter_map key_of_edge own) (b ∷ [])))) ∙ clash-key table own (b ∷ []) h
 
+-- equal keys that are not longer have one byte
+one-byte : (a b : Bool) → (a && b) ≡ (a && not (a && not b))
+one-byte true true = refl
+one-byte true false = refl
+one-byte false b = refl
+
 -- these edges are those that clash with the edge of the key
 pub clash-as-key : (own : List NamedEdge) (key : List ℕ) (number : Option ℕ) → list_any (λ e. key_clash key e) own ≡ list_any (λ e. short_clash e (edge.Key key number)) own
 clash-as-key own key number = any-same (λ e. key_clash key e) (λ e. short_clash e (edge.Key key number)) own each
   where
     each : (e : NamedEdge) → key_clash key e ≡ short_clash e (edge.Key key number)
-    each (edge.Key bytes n) = refl
-    each (edge.Peek byte) = refl
+    each (edge.Key bytes n) = one-byte (bytes_eq bytes key) (length key == 1)
+    each (edge.Peek byte) = sym (and-true (begins_with_byte byte key))
     each (edge.Answer n) = refl
     each (edge.Otherwise skip) = refl
 
@@ -204,8 +210,8 @@ clash-peek table own b h =
     ap₂ ◌||◌ (sym (begun-among own b)) (h.peeks b) ∙ sym (any-split (λ e. short_clash e (edge.Peek b)) (begins_edge b) (is_peek b) own each)
   where
     each : (e : NamedEdge) → short_clash e (edge.Peek b) ≡ (begins_edge b e || is_peek b e)
-    each (edge.Key bytes n) = sym (or_false (begins_with_byte b bytes))
-    each (edge.Peek byte) = refl
+    each (edge.Key bytes n) = and-true (begins_with_byte b bytes) ∙ sym (or_false (begins_with_byte b bytes))
+    each (edge.Peek byte) = and-true (byte == b)
     each (edge.Answer n) = refl
     each (edge.Otherwise skip) = refl
 
@@ -216,7 +222,7 @@ clash-answer own n = any-same (is_answer n) (λ e. short_clash e (edge.Answer n)
     each : (e : NamedEdge) → is_answer n e ≡ short_clash e (edge.Answer n)
     each (edge.Key bytes m) = refl
     each (edge.Peek byte) = refl
-    each (edge.Answer m) = refl
+    each (edge.Answer m) = sym (and-true (m == n))
     each (edge.Otherwise skip) = refl
 
 -- nothing clashes with an otherwise

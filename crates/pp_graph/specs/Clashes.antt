@@ -5,7 +5,7 @@ use Rattle.std.specs.List.{list_any}
 use Rattle.pp_graph.specs.declared.call.NamedEdge.{NamedEdge}
 use Rattle.pp_graph.specs.declared.call.NamedEdge.TheVariants as edge
 use Rattle.pp_graph.specs.declared.call.BuilderCall.{BuilderCall}
-use Rattle.pp_graph.specs.Rules.{edge_of, edges_of, begins_with_byte}
+use Rattle.pp_graph.specs.Rules.{edge_of, edges_of, edges_clash}
 
 -- two keys are equal, and have not one byte
 abbrev pub same_longer : NamedEdge → NamedEdge → Bool
@@ -14,19 +14,7 @@ same_longer a b = false
 
 -- two edges clash, and are not such keys
 abbrev pub short_clash : NamedEdge → NamedEdge → Bool
-short_clash (edge.Key bytes number) (edge.Key other n) = bytes_eq bytes other && length other == 1
-short_clash (edge.Key bytes number) (edge.Peek byte) = begins_with_byte byte bytes
-short_clash (edge.Key bytes number) (edge.Answer n) = false
-short_clash (edge.Key bytes number) (edge.Otherwise skip) = false
-short_clash (edge.Peek byte) (edge.Key bytes number) = begins_with_byte byte bytes
-short_clash (edge.Peek byte) (edge.Peek other) = byte == other
-short_clash (edge.Peek byte) (edge.Answer n) = false
-short_clash (edge.Peek byte) (edge.Otherwise skip) = false
-short_clash (edge.Answer number) (edge.Key bytes n) = false
-short_clash (edge.Answer number) (edge.Peek byte) = false
-short_clash (edge.Answer number) (edge.Answer other) = number == other
-short_clash (edge.Answer number) (edge.Otherwise skip) = false
-short_clash (edge.Otherwise skip) other = false
+short_clash e when = edges_clash e when && not (same_longer e when)
 
 -- one of these edges passes a test with the edge of a call, if it adds one
 abbrev pub any_with : (NamedEdge → NamedEdge → Bool) → List NamedEdge → Option NamedEdge → Bool

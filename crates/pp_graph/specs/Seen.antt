@@ -27,22 +27,8 @@ abbrev pub key_passes_limit : List BuilderCall → ℕ → Bool
 key_passes_limit before len =
     nat_lt 64 len || nat_le 2048 (length (keys_of (since_node before))) || nat_lt 20000 (sum_by weight_of_call before + len)
 
--- the rules that a pass over the calls tells whole, by the edges before a call and by counts
-abbrev pub IsToldBack : GraphRule → Type 0
-IsToldBack DuplicateName = ⊥
-IsToldBack UnknownName = ⊥
-IsToldBack NoEntry = ⊥
-IsToldBack NoOtherwise = ⊥
-IsToldBack KeyClash = ⊥
-IsToldBack PrefixGap = ⊥
-IsToldBack ValueTarget = ⊥
-IsToldBack ValueTooWide = ⊥
-IsToldBack EmptyKey = ⊥
-IsToldBack KeyNotFolded = Unit {0}
-IsToldBack TooMany = Unit {0}
-
--- such a rule fails at a call, with those before it. Of key clashes the pass tells those that are not equal keys of none or
--- of several bytes.
+-- a rule that looks back fails at a call, with those before it. Of key clashes these are the ones that are not equal keys
+-- of none or of several bytes.
 abbrev pub fails_back : GraphRule → List BuilderCall → BuilderCall → Bool
 fails_back DuplicateName before c = false
 fails_back UnknownName before c = false

@@ -23,7 +23,7 @@ impl KeyFaults {
     }
 
     /// Places that count from this start, as ones that count from the first call.
-    pub(crate) fn from(self, start: usize) -> KeyFaults
+    pub(crate) fn counted_from(self, start: usize) -> KeyFaults
         requires again { IfSome self.again (λ p. start + p < 2 ^ 64) }
         requires gap { IfSome self.gap (λ p. start + p < 2 ^ 64) }
         ensures again { result.again ≡ option_map (λ p. start + p) self.again }

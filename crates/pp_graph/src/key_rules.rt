@@ -53,5 +53,5 @@ fn first_of_node(
 {
     let own = own_calls(calls);
     let places = first_places(alloc, own, &sets[..own.len()])?;
-    Ok(places.from(number))
+    Ok(places.counted_from(number))
 }

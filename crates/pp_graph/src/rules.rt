@@ -48,6 +48,7 @@ pub(crate) fn first_fault(
     ensures first { IfOk result (λ found. IfSome found (λ fault. IsFirstFault (all_calls values.now sets.now) fault.0 fault.1)) }
     ensures within { IfOk result (λ found. IfSome found (λ fault. fault.1 ≤ length (all_calls values.now sets.now))) }
 {
+    // Two rules ask for these, and the keys are sorted once for both.
     let keys = first_key_faults(alloc, values.declared().calls(), sets)?;
     for rule in RULES {
         if let Some(call) = first_failure(alloc, rule, values, sets, keys)? {
@@ -105,6 +106,7 @@ fn first_failing_call(rule: GraphRule, values: &Values<'_>) -> Option<usize>
 {
     match rule {
         GraphRule::DuplicateName => values.declared().duplicate(),
+        // It fails at the end alone.
         GraphRule::NoEntry => None,
         _ => first_by_itself(rule, values),
     }

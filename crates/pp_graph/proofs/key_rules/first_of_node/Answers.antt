@@ -1,5 +1,10 @@
-use Rattle.std.proofs.Common.{◌∙◌, ◌+◌, ◌<◌, ◌≤◌, ◌^◌, take, length, sym, ap, subst, arith}
+use Rattle.std.proofs.Common.{◌≡◌, ◌∙◌, ℕ, ◌+◌, ◌<◌, ◌≤◌, ◌^◌, List, Option, take, length, sym, ap, subst, arith}
+use Rattle.std.specs.Prelude.{IfSome}
+use Rattle.std.specs.FinSet as set
+use Rattle.std.specs.Ordering.{nat_cmp}
 use Rattle.std.proofs.lemmas.List.{length-take-le}
+use Rattle.pp_graph.specs.declared.call.BuilderCall.{BuilderCall}
+use Rattle.pp_graph.specs.declared.key_faults.KeyFaults.{KeyFaults}
 use Rattle.pp_graph.specs.Calls.{own_calls}
 use Rattle.pp_graph.specs.declared.fault.GraphRule.TheVariants.{PrefixGap}
 use Rattle.pp_graph.specs.Rules.{FailsAt}
@@ -24,37 +29,44 @@ pub first_places-requires-clause-sets : goal.first_places-requires-clause-sets
 first_places-requires-clause-sets c =
     subst (λ x. AreSets x (take (length x) c.args.sets.now)) (sym c.own_calls-own.ensures) (own-sets c.args.calls.now c.args.sets.now c.requires.sets)
 
+-- the calls of the kept ones of the node are those that belong to it
+same-own : (calls own : List BuilderCall) (sets : List (Option (set.FinSet nat_cmp))) → own ≡ own_calls calls → AreSets calls sets → all_calls own (take (length own) sets) ≡ own_calls (all_calls calls sets)
+same-own calls own sets e h = ap (λ x. all_calls x (take (length x) sets)) e ∙ sym (own-all calls sets h)
+
 pub first_places-requires-clause-small : goal.first_places-requires-clause-small
 first_places-requires-clause-small c =
-    let all = all_calls c.args.calls.now c.args.sets.now in
-    let same = ap (λ x. all_calls x (take (length x) c.args.sets.now)) c.own_calls-own.ensures ∙ sym (own-all c.args.calls.now c.args.sets.now c.requires.sets) in
-    omega (arith, ap length same, own-few all)
+    let same = same-own c.args.calls.now c.own_calls-own.result.now c.args.sets.now c.own_calls-own.ensures c.requires.sets in
+    omega (arith, ap length same, own-few (all_calls c.args.calls.now c.args.sets.now))
 
--- the places that are found are those of all the calls of the node
-pub from-requires-clause-again : goal.from-requires-clause-again
-from-requires-clause-again c =
-    let all = all_calls c.args.calls.now c.args.sets.now in
-    let same = ap (λ x. all_calls x (take (length x) c.args.sets.now)) c.own_calls-own.ensures ∙ sym (own-all c.args.calls.now c.args.sets.now c.requires.sets) in
-    let few = own-few all in
-    let small : c.args.number + length (own_calls all) < 2 ^ 64 = omega arith in
-    let first = subst (λ x. AreFirst (IsAgainAt x) (IsGapAt x) c.in_ok-places.places) same c.in_ok-places.ensures in
-    place-fits ComesAgainAt IsAgainAt again-by_node (own_calls all) c.args.number (2 ^ 64) c.in_ok-places.places.again small first.again
+-- so what is found among them is the first among all of these, and within them
+module _ (calls own : List BuilderCall) (sets : List (Option (set.FinSet nat_cmp))) (e : own ≡ own_calls calls) (h : AreSets calls sets) (places : KeyFaults) (found : AreFirst (IsAgainAt (all_calls own (take (length own) sets))) (IsGapAt (all_calls own (take (length own) sets))) places) where
+  abbrev among : List BuilderCall
+  among = own_calls (all_calls calls sets)
 
-pub from-requires-clause-gap : goal.from-requires-clause-gap
-from-requires-clause-gap c =
-    let all = all_calls c.args.calls.now c.args.sets.now in
-    let same = ap (λ x. all_calls x (take (length x) c.args.sets.now)) c.own_calls-own.ensures ∙ sym (own-all c.args.calls.now c.args.sets.now c.requires.sets) in
-    let few = own-few all in
-    let small : c.args.number + length (own_calls all) < 2 ^ 64 = omega arith in
-    let first = subst (λ x. AreFirst (IsAgainAt x) (IsGapAt x) c.in_ok-places.places) same c.in_ok-places.ensures in
-    place-fits (FailsAt PrefixGap) IsGapAt gap-by_node (own_calls all) c.args.number (2 ^ 64) c.in_ok-places.places.gap small first.gap
+  first-own : AreFirst (IsAgainAt among) (IsGapAt among) places
+  first-own = subst (λ x. AreFirst (IsAgainAt x) (IsGapAt x) places) (same-own calls own sets e h) found
+
+  again-fits : (number : ℕ) → number + length (all_calls calls sets) < 2 ^ 64 → IfSome places.again (λ p. number + p < 2 ^ 64)
+  again-fits number small =
+      place-fits ComesAgainAt IsAgainAt again-by_node among number (2 ^ 64) places.again (omega (arith, small, own-few (all_calls calls sets))) first-own.again
+
+  gap-fits : (number : ℕ) → number + length (all_calls calls sets) < 2 ^ 64 → IfSome places.gap (λ p. number + p < 2 ^ 64)
+  gap-fits number small =
+      place-fits (FailsAt PrefixGap) IsGapAt gap-by_node among number (2 ^ 64) places.gap (omega (arith, small, own-few (all_calls calls sets))) first-own.gap
+
+pub counted_from-requires-clause-again : goal.counted_from-requires-clause-again
+counted_from-requires-clause-again c =
+    again-fits c.args.calls.now c.own_calls-own.result.now c.args.sets.now c.own_calls-own.ensures c.requires.sets c.in_ok-places.places c.in_ok-places.ensures c.args.number c.requires.small
+
+pub counted_from-requires-clause-gap : goal.counted_from-requires-clause-gap
+counted_from-requires-clause-gap c =
+    gap-fits c.args.calls.now c.own_calls-own.result.now c.args.sets.now c.own_calls-own.ensures c.requires.sets c.in_ok-places.places c.in_ok-places.ensures c.args.number c.requires.small
 
 pub returns : goal.returns
 returns c =
     let own = own_calls (all_calls c.args.calls.now c.args.sets.now) in
-    let same = ap (λ x. all_calls x (take (length x) c.args.sets.now)) c.own_calls-own.ensures ∙ sym (own-all c.args.calls.now c.args.sets.now c.requires.sets) in
-    let first = subst (λ x. AreFirst (IsAgainAt x) (IsGapAt x) c.in_ok-places.places) same c.in_ok-places.ensures in
+    let first = first-own c.args.calls.now c.own_calls-own.result.now c.args.sets.now c.own_calls-own.ensures c.requires.sets c.in_ok-places.places c.in_ok-places.ensures in
     record {
-      again = subst (IsLeast (IsFrom (IsAgainAt own) c.args.number)) (sym c.from.ensures.again) (least-from (IsAgainAt own) c.args.number c.in_ok-places.places.again first.again);
-      gap = subst (IsLeast (IsFrom (IsGapAt own) c.args.number)) (sym c.from.ensures.gap) (least-from (IsGapAt own) c.args.number c.in_ok-places.places.gap first.gap);
+      again = subst (IsLeast (IsFrom (IsAgainAt own) c.args.number)) (sym c.counted_from.ensures.again) (least-from (IsAgainAt own) c.args.number c.in_ok-places.places.again first.again);
+      gap = subst (IsLeast (IsFrom (IsGapAt own) c.args.number)) (sym c.counted_from.ensures.gap) (least-from (IsGapAt own) c.args.number c.in_ok-places.places.gap first.gap);
     }

@@ -1,11 +1,10 @@
-use Rattle.std.proofs.Common.{◌≡◌, ◌⊎◌, [], inl, inr, ◌∙◌, ap, sym, subst}
+use Rattle.std.proofs.Common.{[], ◌∙◌, ap, sym, subst}
 use Rattle.std.proofs.lemmas.Result.{IfOk-weaker}
-use Rattle.pp_graph.specs.declared.fault.GraphRule.{GraphRule}
-use Rattle.pp_graph.specs.declared.fault.GraphRule.TheVariants.{KeyClash, KeyNotFolded, TooMany}
+use Rattle.pp_graph.specs.declared.fault.GraphRule.TheVariants.{KeyClash}
 use Rattle.pp_graph.specs.Rules.{FailsAt}
 use Rattle.pp_graph.specs.Sets.{all_calls}
 use Rattle.pp_graph.specs.Least.{IsLeast}
-use Rattle.pp_graph.specs.Seen.{FailsBehind, IsToldBack}
+use Rattle.pp_graph.specs.Seen.{FailsBehind}
 use Rattle.pp_graph.proofs.ClashLemmas.{least-clash}
 use Rattle.pp_graph.proofs.LookingBackLemmas.{least-of-all}
 use Rattle.pp_graph.proofs.rules.first_failure.Goals as goal
@@ -21,12 +20,8 @@ returns-in_ok-first_looking_back-in-KeyClash c =
     subst (λ rule. IsLeast (FailsAt rule all) c.lesser.result) (sym c.in-KeyClash.is)
     (subst (IsLeast (FailsAt KeyClash all)) (sym c.lesser.ensures) (least-clash all found c.args.keys.again short c.requires.keys.again))
 
--- these rules are told whole by the pass over the calls
-told-back : (rule : GraphRule) → (rule ≡ KeyNotFolded) ⊎ (rule ≡ TooMany) → IsToldBack rule
-told-back rule h = elim h [ inl e ↦ subst IsToldBack (sym e) tt | inr e ↦ subst IsToldBack (sym e) tt ]
-
 pub returns-in-KeyNotFolded : goal.returns-in-KeyNotFolded
 returns-in-KeyNotFolded c =
     let all = all_calls c.args.values.now c.args.sets.now in
     let same = ap (λ calls. all_calls calls c.args.sets.now) (c.calls-calls.ensures ∙ c.declared.ensures) in
-    IfOk-weaker c.first_looking_back-in-KeyNotFolded.result _ (IsLeast (FailsAt c.args.rule all)) (λ found told. least-of-all c.args.rule all found (told-back c.args.rule c.in-KeyNotFolded.is) (subst (λ x. IsLeast (FailsBehind c.args.rule [] x) found) same told)) c.first_looking_back-in-KeyNotFolded.ensures
+    IfOk-weaker c.first_looking_back-in-KeyNotFolded.result _ (IsLeast (FailsAt c.args.rule all)) (λ found told. least-of-all c.args.rule all found c.in-KeyNotFolded.is (subst (λ x. IsLeast (FailsBehind c.args.rule [] x) found) same told)) c.first_looking_back-in-KeyNotFolded.ensures
