@@ -1,9 +1,9 @@
 // The printed text of a graph.
 ghost use Rattle.std.specs.Prelude.{◌≡◌, ◌++◌, ◌∷◌, ◌<◌, [], Some, codes, decimal, flat_map, map, if◌then◌else◌, IfOk, OnOk};
-ghost use Rattle.pp_graph.specs.declared.call.BuilderCall.TheVariants as call;
-ghost use Rattle.pp_graph.specs.declared.call.NamedKind.TheVariants as kind;
-ghost use Rattle.pp_graph.specs.declared.call.NamedCode.TheVariants as code;
-ghost use Rattle.pp_graph.specs.Names.{is_plain_byte as is_plain_byte_of};
+ghost use Rattle.pp_rules.specs.declared.call.BuilderCall.TheVariants as call;
+ghost use Rattle.pp_rules.specs.declared.call.NamedKind.TheVariants as kind;
+ghost use Rattle.pp_rules.specs.declared.call.NamedCode.TheVariants as code;
+ghost use Rattle.pp_rules.specs.Names.{is_plain_byte as is_plain_byte_of};
 ghost use Rattle.pp_text.specs.Tokens.{Word, Quoted, token_text};
 ghost use Rattle.pp_text.specs.Statements.{width_word, constant_word, number_word, kind_tokens, code_tokens, carried_tokens, arrow_tokens};
 ghost use Rattle.pp_text.specs.Telling.{prop_name as prop_name_of, host_name as host_name_of, span_name as span_name_of, node_name as node_name_of, prop_call, host_call, span_call, finish_calls, node_calls, key_call, peek_call, answer_call, other_call, else_call, named_code, named_kind, edge_calls};
