@@ -2,7 +2,6 @@ pub mod CallLemmas
 pub mod SetCallLemmas
 pub mod TableLemmas
 pub mod EachLemmas
-pub mod NameLemmas
 pub mod PlaceLemmas
 pub mod SoundLemmas
 pub mod SortLemmas

@@ -14,6 +14,8 @@ use Rattle.pp_rules.specs.declared.call.BuilderCall.TheVariants as call
 use Rattle.pp_rules.specs.declared.call.Sort.TheVariants as sort
 use Rattle.pp_rules.specs.declared.rules.GraphRule.TheVariants.{NoEntry}
 use Rattle.pp_rules.specs.Names.{IsName}
+use Rattle.pp_graph.specs.Ranges.{NodeInRange}
+use Rattle.std.specs.Prelude.{All}
 use Rattle.pp_graph.specs.Plan.{IsWellFormed, AreDistinct, FitsIn, FinishFits, Leads, host_value}
 use Rattle.pp_graph.specs.Calls.{HaveForm}
 use Rattle.pp_rules.specs.Calls.{own_calls, names_of, is_declared, named_by_code, declared_by, is_declared_by}
@@ -127,8 +129,8 @@ few-decls : {X : Type 0} (name_of : X → List ℕ) (xs : List X) (names : List 
 few-decls name_of xs names limit e h = omega (arith, length-map xs name_of, ap length e)
 
 -- the graph of calls that keep the rules is well formed
-pub IsWellFormed-built : (calls : List BuilderCall) → KeepsRules calls → HaveForm calls → IsWellFormed (built calls)
-IsWellFormed-built calls k h =
+pub IsWellFormed-built : (calls : List BuilderCall) → KeepsRules calls → HaveForm calls → All NodeInRange (built calls).nodes → IsWellFormed (built calls)
+IsWellFormed-built calls k h range =
     let s : AreSound calls [] calls = AreSound-from_rules calls [] calls refl k h in
     let t = tables_of calls in
     let plan = built calls in
@@ -146,6 +148,7 @@ IsWellFormed-built calls k h =
       entry = entry-leads calls s has;
       finish = first-finish calls (filter_map (finish_places t) calls) (decls-fit (finish_places t) (λ r. FinishFits plan (Some r)) calls (finish-fits calls s) s);
       kinds = λ i n e. (each-at (IsSoundNode calls) plan.nodes fits i n e).1;
+      in_range = range;
       few_props = few-decls (λ (p : PropDecl). p.name) plan.props (names_of sort.Prop calls) 64 (props-names calls) (few-props calls s);
       few_hosts = few-decls (λ (p : HostDecl). p.name) plan.hosts (names_of sort.Host calls) 64 (hosts-names calls) (few-hosts calls s);
       few_spans = few-decls (λ (p : SpanDecl). p.name) plan.spans (names_of sort.Span calls) 32 (spans-names calls) (few-spans calls s);

@@ -1,3 +1,4 @@
+pub mod Ranges
 pub mod Plan
 pub mod Calls
 pub mod Built

@@ -1,5 +1,5 @@
 -- A graph as plain data, and the rules that it keeps.
-use Rattle.std.specs.Prelude.{◌≡◌, ◌≢◌, ℕ, ◌+◌, ◌<◌, ◌≤◌, List, Option, Some, None, Bool, true, false, length, map, slice_get, AllPairs, sum_by}
+use Rattle.std.specs.Prelude.{◌≡◌, ◌≢◌, ℕ, ◌+◌, ◌<◌, ◌≤◌, List, Option, Some, None, Bool, true, false, length, map, slice_get, AllPairs, All, sum_by}
 use Rattle.std.specs.List.{list_any}
 use Rattle.pp_bytes.specs.declared.fold.Fold.{Fold}
 use Rattle.pp_bytes.specs.declared.fold.Fold.TheVariants.{Lower}
@@ -16,7 +16,9 @@ use Rattle.pp_graph.specs.declared.node.Kind.TheVariants.{Match, Invoke, Consume
 use Rattle.pp_graph.specs.declared.node.Node.{Node}
 use Rattle.pp_rules.specs.Names.{IsName, IsReason}
 use Rattle.pp_rules.specs.Keys.{has_gap, is_upper_case}
+use Rattle.pp_graph.specs.Ranges.{NodeInRange}
 use Rattle.pp_rules.specs.Widths.{greatest}
+use Rattle.pp_rules.specs.Rules.Limits.{most_props, most_hosts, most_spans, most_nodes, most_key_bytes, most_keys, most_weight}
 
 -- the declarations and the nodes in order, the place of the node where a run begins, and the property and the
 -- host code of the finish rule
@@ -106,11 +108,11 @@ CodeFits g (code.MulAdd prop base most) = Holds g prop most
 abbrev pub key_bytes : List Key → List (List ℕ)
 key_bytes keys = map (λ (k : Key). k.bytes) keys
 
--- a key of a match node: not empty, at most 64 bytes, and none from A to Z where the node compares in lower case
+-- a key of a match node: not empty, not too long, and no byte from A to Z where the node compares in lower case
 pub record IsKey (g : Plan) (fold : Fold) (k : Key) : Type 0 where
   pub leads : Leads g k.number k.target
   pub some : 0 < length k.bytes
-  pub short : length k.bytes ≤ 64
+  pub short : length k.bytes ≤ most_key_bytes
   pub folded : fold ≡ Lower → list_any is_upper_case k.bytes ≡ false
 
 -- a peek byte of a match node
@@ -124,7 +126,7 @@ pub record AreEdges (g : Plan) (fold : Fold) (keys : List Key) (peeks : List Pee
   pub each_key : EachIs (IsKey g fold) keys
   pub distinct_keys : AreDistinct (key_bytes keys)
   pub no_gap : (short long : Key) (i j : ℕ) → slice_get keys i ≡ Some short → slice_get keys j ≡ Some long → has_gap (key_bytes keys) short.bytes long.bytes ≡ false
-  pub few : length keys ≤ 2048
+  pub few : length keys ≤ most_keys
   pub each_peek : EachIs (IsPeek g fold) peeks
   pub distinct_peeks : AreDistinct (map (λ (p : Peek). p.byte) peeks)
   pub apart : (k : Key) (p : Peek) (i j : ℕ) → slice_get keys i ≡ Some k → slice_get peeks j ≡ Some p → slice_get k.bytes 0 ≢ Some p.byte
@@ -160,7 +162,8 @@ FinishFits g None = Unit {0}
 FinishFits g (Some rule) = (rule.0 < length g.props) × (h : HostDecl) × (slice_get g.hosts rule.1 ≡ Some h) × (h.value ≡ false)
 
 -- The rules of a graph: names have their form and differ within their kind, the entry and each edge lead to a node,
--- codes fit, the edges of a node differ without gaps, and no count passes its limit.
+-- codes fit, the edges of a node differ without gaps, no count passes its limit, and all
+-- numbers lie within their types.
 pub record IsWellFormed (g : Plan) : Type 0 where
   pub prop_names : AreDistinct (map (λ (p : PropDecl). p.name) g.props)
   pub host_names : AreDistinct (map (λ (h : HostDecl). h.name) g.hosts)
@@ -173,8 +176,9 @@ pub record IsWellFormed (g : Plan) : Type 0 where
   pub entry : Leads g None g.entry
   pub finish : FinishFits g g.finish
   pub kinds : EachIs (λ (n : Node). FitsIn g n.kind) g.nodes
-  pub few_props : length g.props ≤ 64
-  pub few_hosts : length g.hosts ≤ 64
-  pub few_spans : length g.spans ≤ 32
-  pub few_nodes : length g.nodes ≤ 4096
-  pub light : sum_by (λ (n : Node). weight_of n.kind) g.nodes ≤ 20000
+  pub few_props : length g.props ≤ most_props
+  pub few_hosts : length g.hosts ≤ most_hosts
+  pub few_spans : length g.spans ≤ most_spans
+  pub few_nodes : length g.nodes ≤ most_nodes
+  pub in_range : All NodeInRange g.nodes
+  pub light : sum_by (λ (n : Node). weight_of n.kind) g.nodes ≤ most_weight

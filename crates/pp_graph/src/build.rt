@@ -8,6 +8,7 @@ ghost use Rattle.pp_rules.specs.Rules.{KeepsRules};
 use crate::graph::{Graph, Parts};
 use crate::node::{Answer, Code, Key, Kind, Node, Other, Peek};
 use crate::places::Places;
+use crate::ranges::numbers_fit;
 use pp_bytes::Listed;
 use pp_rules::{
     BuilderCall, Constant, Declared, HostDecl, Name, NamedCode, NamedEdge, NamedKind, PropDecl,
@@ -24,11 +25,13 @@ pub(crate) fn build(alloc: Global, declared: &Declared<'_>) -> Result<Graph, All
 {
     let calls = declared.calls();
     let places = Places::of(alloc, declared)?;
+    let nodes = nodes_of(alloc, &places)?;
+    numbers_fit(&nodes);
     Ok(Graph::of(Parts {
         props: props_of(alloc, calls)?,
         hosts: hosts_of(alloc, calls)?,
         spans: spans_of(alloc, calls)?,
-        nodes: nodes_of(alloc, &places)?,
+        nodes,
         entry: entry_of(&places),
         finish: finish_of(&places),
     }))

@@ -9,6 +9,7 @@ mod graph;
 mod name_lists;
 mod node;
 mod places;
+mod ranges;
 
 pub use builder::{GraphBuilder, LastNode};
 pub use call::{CodeText, KindText};

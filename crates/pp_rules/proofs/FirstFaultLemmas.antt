@@ -1,5 +1,5 @@
 -- The first call at which a rule fails: from the first kept call at which it does, and what follows of it.
-use Rattle.std.proofs.Common.{◌≡◌, ℕ, zero, suc, ◌∷◌, [], ◌<◌, ◌≤◌, inl, inr, Bool, true, false, ◌&&◌, ◌==◌, List, Option, Some, length, take, refl, ap, sym, ◌∙◌, subst, arith}
+use Rattle.std.proofs.Common.{◌≡◌, ℕ, zero, suc, ◌∷◌, [], ◌<◌, ◌≤◌, inl, inr, Bool, true, false, ◌&&◌, ◌==◌, List, Option, Some, length, take, get_or, refl, ap, sym, ◌∙◌, subst, arith}
 use Rattle.std.specs.Prelude.{IsNone, IsTrue, IfSome, sum_by}
 use Rattle.std.specs.Prelude.{None as none}
 use Rattle.std.specs.FinSet as set
@@ -10,14 +10,15 @@ use Rattle.std.proofs.lemmas.Option.{slice_get_past}
 use Rattle.std.proofs.lemmas.List.Sums.{sum_by-cons}
 use Rattle.pp_rules.specs.declared.call.BuilderCall.{BuilderCall}
 use Rattle.pp_rules.specs.declared.rules.GraphRule.{GraphRule}
+use Rattle.pp_rules.specs.declared.rules.GraphRule.TheVariants.{NoEntry}
 use Rattle.pp_rules.specs.Rules.{fails_at, fails_at_call, fails_at_end, FailsAt}
 use Rattle.pp_rules.specs.Sets.{all_calls, AreSets, size_of}
 use Rattle.pp_rules.specs.steps.Seen.{IsByName}
 use Rattle.pp_rules.specs.steps.Least.{IsLeast}
 use Rattle.pp_rules.proofs.LeastLemmas.{IsLeast-none, IsLeast-some}
-use Rattle.pp_rules.proofs.RuleLemmas.{fails_at-length}
+use Rattle.pp_rules.proofs.RuleLemmas.{fails_at-length, fails_at-within}
 use Rattle.pp_rules.proofs.SetLemmas.{number-is, number-le}
-use Rattle.pp_rules.proofs.TransferLemmas.{number, fails-all, fails-kept, end-same}
+use Rattle.pp_rules.proofs.TransferLemmas.{there-is, number, fails-all, fails-kept, end-same}
 
 and-left : (a b : Bool) → (a && b) ≡ true → a ≡ true
 and-left true b h = refl
@@ -85,11 +86,27 @@ module _ (rule : GraphRule) (named : IsByName rule) (calls : List BuilderCall) (
   at-end : fails_at rule (all_calls calls sets) (length (all_calls calls sets)) ≡ fails_at_end rule calls
   at-end = fails_at-length rule (all_calls calls sets) ∙ end-same rule named calls sets h
 
-  -- of a rule that fails at no kept call
-  pub least-end : (found : Option ℕ) → ((j : ℕ) → j < length calls → ¬ (FailsAt rule calls j)) → (IsNone found → fails_at_end rule calls ≡ false) → IfSome found (λ i. (i ≡ length (all_calls calls sets)) × IsTrue (fails_at_end rule calls)) → IsLeast (FailsAt rule (all_calls calls sets)) found
-  least-end none kept_all e s =
-      IsLeast-none (FailsAt rule (all_calls calls sets)) (λ p f. false≢true (sym (at-end ∙ e refl) ∙ (ap (fails_at rule (all_calls calls sets)) (sym (no-call kept_all p f)) ∙ f)))
-  least-end (Some i) kept_all e s =
-      IsLeast-some (FailsAt rule (all_calls calls sets)) i
-      (ap (fails_at rule (all_calls calls sets)) s.0 ∙ (at-end ∙ s.1))
-      (λ p f. let last : p ≡ length (all_calls calls sets) = no-call kept_all p f in let here : i ≡ length (all_calls calls sets) = s.0 in omega arith)
+  -- a rule that fails at no kept call, nor at the end, fails nowhere
+  pub least-none : ((j : ℕ) → j < length calls → ¬ (FailsAt rule calls j)) → fails_at_end rule calls ≡ false → IsLeast (FailsAt rule (all_calls calls sets)) none
+  least-none kept_all e =
+      IsLeast-none (FailsAt rule (all_calls calls sets)) (λ p f. false≢true (sym (at-end ∙ e) ∙ (ap (fails_at rule (all_calls calls sets)) (sym (no-call kept_all p f)) ∙ f)))
+
+  -- and one that fails at the end alone fails there first
+  least-end : ((j : ℕ) → j < length calls → ¬ (FailsAt rule calls j)) → fails_at_end rule calls ≡ true → IsLeast (FailsAt rule (all_calls calls sets)) (Some (length (all_calls calls sets)))
+  least-end kept_all e =
+      IsLeast-some (FailsAt rule (all_calls calls sets)) (length (all_calls calls sets))
+      (at-end ∙ e)
+      (λ p f. let last : p ≡ length (all_calls calls sets) = no-call kept_all p f in omega arith)
+
+-- at a call the rule that there is an entry doesn't fail
+entry-at : (calls : List BuilderCall) (j : ℕ) → j < length calls → ¬ (FailsAt NoEntry calls j)
+entry-at calls j l f =
+    let there : (c : BuilderCall) × (c ≡ get_or calls j c) = there-is calls j l in
+    false≢true (sym (fails_at-within NoEntry calls j there.0 l there.1) ∙ f)
+
+-- it holds where some call gives the entry, and else fails at the end
+pub entry-there : (calls : List BuilderCall) (sets : List (Option (set.FinSet nat_cmp))) → AreSets calls sets → fails_at_end NoEntry calls ≡ false → IsLeast (FailsAt NoEntry (all_calls calls sets)) none
+entry-there calls sets h = least-none NoEntry tt calls sets h (entry-at calls)
+
+pub entry-missing : (calls : List BuilderCall) (sets : List (Option (set.FinSet nat_cmp))) → AreSets calls sets → fails_at_end NoEntry calls ≡ true → IsLeast (FailsAt NoEntry (all_calls calls sets)) (Some (length (all_calls calls sets)))
+entry-missing calls sets h = least-end NoEntry tt calls sets h (entry-at calls)

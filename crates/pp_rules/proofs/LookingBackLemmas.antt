@@ -14,6 +14,8 @@ use Rattle.pp_rules.specs.declared.call.BuilderCall.{BuilderCall}
 use Rattle.pp_rules.specs.declared.kept.ByteUse.{ByteUse}
 use Rattle.pp_rules.specs.declared.rules.GraphRule.{GraphRule}
 use Rattle.pp_rules.specs.declared.rules.GraphRule.TheVariants.{KeyNotFolded, TooMany}
+use Rattle.pp_rules.specs.declared.rules.looking_back.LookingBack.{LookingBack}
+use Rattle.pp_rules.specs.declared.rules.looking_back.LookingBack.TheVariants as looking
 use Rattle.pp_rules.specs.declared.rules.looking_back.seen.Seen.{Seen}
 use Rattle.pp_rules.specs.Rules.{fails, fails_at_end, fails_at_call, FailsAt}
 use Rattle.pp_rules.specs.Sets.{byte_call, spread, all_calls, IsSetOf, AreSets, size_of}
@@ -23,36 +25,34 @@ use Rattle.pp_rules.proofs.LeastLemmas.{IsLeast-none, IsLeast-some, IsLeast-same
 use Rattle.pp_rules.proofs.SetLemmas.{spread-set, length-sets, all-more, all-split, all-drop, number-is}
 
 -- such a rule asks only for the calls before, and never fails at the end
-abbrev AsksBefore : GraphRule → Type 0
-AsksBefore rule = ((all before : List BuilderCall) (c : BuilderCall) (after : List BuilderCall) → fails rule all before c after ≡ fails_back rule before c) × ((all : List BuilderCall) → fails_at_end rule all ≡ false)
-
--- as these two do
-asks-before : (rule : GraphRule) → (rule ≡ KeyNotFolded) ⊎ (rule ≡ TooMany) → AsksBefore rule
-asks-before rule h = elim h [
-  | inl e ↦ subst AsksBefore (sym e) (λ all before c after. refl, λ all. refl)
-  | inr e ↦ subst AsksBefore (sym e) (λ all before c after. refl, λ all. refl)
-]
+abbrev AsksBefore : GraphRule → LookingBack → Type 0
+AsksBefore rule back = ((all before : List BuilderCall) (c : BuilderCall) (after : List BuilderCall) → fails rule all before c after ≡ fails_back back before c) × ((all : List BuilderCall) → fails_at_end rule all ≡ false)
 
 -- the rule fails at this call, if it is there, behind these
-abbrev FailsWith : GraphRule → Option BuilderCall → List BuilderCall → Type 0
+abbrev FailsWith : LookingBack → Option BuilderCall → List BuilderCall → Type 0
 FailsWith rule s before = IsSomeAnd s (λ c. IsTrue (fails_back rule before c))
 
-with-same : (rule : GraphRule) (s t : Option BuilderCall) (before same : List BuilderCall) → s ≡ t → before ≡ same → FailsWith rule s before → FailsWith rule t same
+with-same : (rule : LookingBack) (s t : Option BuilderCall) (before same : List BuilderCall) → s ≡ t → before ≡ same → FailsWith rule s before → FailsWith rule t same
 with-same rule s t before same e f h = subst (λ u. FailsWith rule u same) e (subst (FailsWith rule s) f h)
 
-to-with : (rule : GraphRule) (all : List BuilderCall) (p : ℕ) (s : Option BuilderCall) → AsksBefore rule → IsTrue (fails_at_call rule all p s) → FailsWith rule s (take p all)
-to-with rule all p none asks h = false≢true (sym (asks.1 all) ∙ (and_parts (p == length all) (fails_at_end rule all) h).1)
-to-with rule all p (Some c) asks h = sym (asks.0 all (take p all) c (drop (suc p) all)) ∙ h
+to-with : (rule : GraphRule) (back : LookingBack) (all : List BuilderCall) (p : ℕ) (s : Option BuilderCall) → AsksBefore rule back → IsTrue (fails_at_call rule all p s) → FailsWith back s (take p all)
+to-with rule back all p none asks h = false≢true (sym (asks.1 all) ∙ (and_parts (p == length all) (fails_at_end rule all) h).1)
+to-with rule back all p (Some c) asks h = sym (asks.0 all (take p all) c (drop (suc p) all)) ∙ h
 
-from-with : (rule : GraphRule) (all : List BuilderCall) (p : ℕ) (s : Option BuilderCall) → AsksBefore rule → FailsWith rule s (take p all) → IsTrue (fails_at_call rule all p s)
-from-with rule all p none asks h = absurd h
-from-with rule all p (Some c) asks h = asks.0 all (take p all) c (drop (suc p) all) ∙ h
+from-with : (rule : GraphRule) (back : LookingBack) (all : List BuilderCall) (p : ℕ) (s : Option BuilderCall) → AsksBefore rule back → FailsWith back s (take p all) → IsTrue (fails_at_call rule all p s)
+from-with rule back all p none asks h = absurd h
+from-with rule back all p (Some c) asks h = asks.0 all (take p all) c (drop (suc p) all) ∙ h
 
 -- among all calls such a rule fails as among a few behind none
-pub least-of-all : (rule : GraphRule) (all : List BuilderCall) (found : Option ℕ) → (rule ≡ KeyNotFolded) ⊎ (rule ≡ TooMany) → IsLeast (FailsBehind rule [] all) found → IsLeast (FailsAt rule all) found
-least-of-all rule all found h =
-    let asks = asks-before rule h in
-    IsLeast-same (FailsBehind rule [] all) (FailsAt rule all) found (λ p. from-with rule all p (slice_get all p) asks) (λ p. to-with rule all p (slice_get all p) asks)
+least-of-all : (rule : GraphRule) (back : LookingBack) (all : List BuilderCall) (found : Option ℕ) → AsksBefore rule back → IsLeast (FailsBehind back [] all) found → IsLeast (FailsAt rule all) found
+least-of-all rule back all found asks h =
+    IsLeast-same (FailsBehind back [] all) (FailsAt rule all) found (λ p. from-with rule back all p (slice_get all p) asks) (λ p. to-with rule back all p (slice_get all p) asks) h
+
+pub least-not_folded : (all : List BuilderCall) (found : Option ℕ) → IsLeast (FailsBehind looking.KeyNotFolded [] all) found → IsLeast (FailsAt KeyNotFolded all) found
+least-not_folded all found = least-of-all KeyNotFolded looking.KeyNotFolded all found (λ all before c after. refl, λ all. refl)
+
+pub least-too_many : (all : List BuilderCall) (found : Option ℕ) → IsLeast (FailsBehind looking.TooMany [] all) found → IsLeast (FailsAt TooMany all) found
+least-too_many all found = least-of-all TooMany looking.TooMany all found (λ all before c after. refl, λ all. refl)
 
 -- the elements of the first of two lists, and of the second
 slice_get-left : (xs ys : List BuilderCall) (n : ℕ) → n < length xs → slice_get (xs ++ ys) n ≡ slice_get xs n
@@ -71,7 +71,7 @@ take-right (x ∷ xs) ys zero k e = absurd (omega arith)
 take-right (x ∷ xs) ys (suc n) k e = ap (λ zs. x ∷ zs) (take-right xs ys n k (omega arith))
 
 -- where it fails among a few, there is a call
-fails-within : (rule : GraphRule) (before few : List BuilderCall) (k : ℕ) → FailsBehind rule before few k → k < length few
+fails-within : (rule : LookingBack) (before few : List BuilderCall) (k : ℕ) → FailsBehind rule before few k → k < length few
 fails-within rule before few k h =
     elim (cases_lt k (length few)) [
       | inl within ↦ within
@@ -79,11 +79,11 @@ fails-within rule before few k h =
     ]
 
 -- at a call of the first of two lists it fails as without the second
-to-left : (rule : GraphRule) (before few more : List BuilderCall) (k : ℕ) → k < length few → FailsBehind rule before few k → FailsBehind rule before (few ++ more) k
+to-left : (rule : LookingBack) (before few more : List BuilderCall) (k : ℕ) → k < length few → FailsBehind rule before few k → FailsBehind rule before (few ++ more) k
 to-left rule before few more k h =
     with-same rule (slice_get few k) (slice_get (few ++ more) k) (before ++ take k few) (before ++ take k (few ++ more)) (sym (slice_get-left few more k h)) (ap (λ xs. before ++ xs) (sym (take-append-le k few more (omega arith))))
 
-from-left : (rule : GraphRule) (before few more : List BuilderCall) (k : ℕ) → k < length few → FailsBehind rule before (few ++ more) k → FailsBehind rule before few k
+from-left : (rule : LookingBack) (before few more : List BuilderCall) (k : ℕ) → k < length few → FailsBehind rule before (few ++ more) k → FailsBehind rule before few k
 from-left rule before few more k h =
     with-same rule (slice_get (few ++ more) k) (slice_get few k) (before ++ take k (few ++ more)) (before ++ take k few) (slice_get-left few more k h) (ap (λ xs. before ++ xs) (take-append-le k few more (omega arith)))
 
@@ -91,16 +91,16 @@ from-left rule before few more k h =
 behind-right : (before few more : List BuilderCall) (n k : ℕ) → n ≡ length few + k → before ++ take n (few ++ more) ≡ before ++ few ++ take k more
 behind-right before few more n k e = ap (λ xs. before ++ xs) (take-right few more n k e) ∙ sym (append_assoc before few (take k more))
 
-to-right : (rule : GraphRule) (before few more : List BuilderCall) (n k : ℕ) → n ≡ length few + k → FailsBehind rule (before ++ few) more k → FailsBehind rule before (few ++ more) n
+to-right : (rule : LookingBack) (before few more : List BuilderCall) (n k : ℕ) → n ≡ length few + k → FailsBehind rule (before ++ few) more k → FailsBehind rule before (few ++ more) n
 to-right rule before few more n k e =
     with-same rule (slice_get more k) (slice_get (few ++ more) n) (before ++ few ++ take k more) (before ++ take n (few ++ more)) (sym (slice_get-right few more n k e)) (sym (behind-right before few more n k e))
 
-from-right : (rule : GraphRule) (before few more : List BuilderCall) (n k : ℕ) → n ≡ length few + k → FailsBehind rule before (few ++ more) n → FailsBehind rule (before ++ few) more k
+from-right : (rule : LookingBack) (before few more : List BuilderCall) (n k : ℕ) → n ≡ length few + k → FailsBehind rule before (few ++ more) n → FailsBehind rule (before ++ few) more k
 from-right rule before few more n k e =
     with-same rule (slice_get (few ++ more) n) (slice_get more k) (before ++ take n (few ++ more)) (before ++ few ++ take k more) (slice_get-right few more n k e) (behind-right before few more n k e)
 
 -- the first call where it fails, if it fails at none of the first list
-pub least-behind : (rule : GraphRule) (before few more : List BuilderCall) (found : Option ℕ) → IsLeast (FailsBehind rule before few) none → IsLeast (FailsBehind rule (before ++ few) more) found → IsLeast (FailsBehind rule before (few ++ more)) (option_map (λ k. length few + k) found)
+pub least-behind : (rule : LookingBack) (before few more : List BuilderCall) (found : Option ℕ) → IsLeast (FailsBehind rule before few) none → IsLeast (FailsBehind rule (before ++ few) more) found → IsLeast (FailsBehind rule before (few ++ more)) (option_map (λ k. length few + k) found)
 least-behind rule before few more found kept least =
     IsLeast-image (FailsBehind rule (before ++ few) more) (FailsBehind rule before (few ++ more)) (λ k. length few + k) found (λ i j h. omega arith) (λ k. to-right rule before few more (length few + k) k refl) (λ n h. elim (cases_lt n (length few)) [
       | inl below ↦ absurd (kept.least n (from-left rule before few more n below h))
@@ -110,7 +110,7 @@ least-behind rule before few more found kept least =
     ]) least
 
 -- what stands behind does not change the first call where it fails
-pub least-before : (rule : GraphRule) (before few more : List BuilderCall) (k : ℕ) → IsLeast (FailsBehind rule before few) (Some k) → IsLeast (FailsBehind rule before (few ++ more)) (Some k)
+pub least-before : (rule : LookingBack) (before few more : List BuilderCall) (k : ℕ) → IsLeast (FailsBehind rule before few) (Some k) → IsLeast (FailsBehind rule before (few ++ more)) (Some k)
 least-before rule before few more k least =
     let within : k < length few = fails-within rule before few k least.holds in
     IsLeast-some (FailsBehind rule before (few ++ more)) k (to-left rule before few more k within least.holds) (λ j h. elim (cases_lt j (length few)) [
@@ -119,15 +119,15 @@ least-before rule before few more k least =
     ])
 
 -- a first call where it fails is one of them
-pub least-within : (rule : GraphRule) (before few : List BuilderCall) (k : ℕ) → IsLeast (FailsBehind rule before few) (Some k) → k < length few
+pub least-within : (rule : LookingBack) (before few : List BuilderCall) (k : ℕ) → IsLeast (FailsBehind rule before few) (Some k) → k < length few
 least-within rule before few k least = fails-within rule before few k least.holds
 
 -- of one call
-pub least-fails : (rule : GraphRule) (before : List BuilderCall) (c : BuilderCall) → fails_back rule before c ≡ true → IsLeast (FailsBehind rule before (c ∷ [])) (Some 0)
+pub least-fails : (rule : LookingBack) (before : List BuilderCall) (c : BuilderCall) → fails_back rule before c ≡ true → IsLeast (FailsBehind rule before (c ∷ [])) (Some 0)
 least-fails rule before c h =
     IsLeast-some (FailsBehind rule before (c ∷ [])) 0 (ap (λ xs. fails_back rule xs c) (append-nil before) ∙ h) (λ j f. omega arith)
 
-pub least-kept : (rule : GraphRule) (before : List BuilderCall) (c : BuilderCall) → fails_back rule before c ≡ false → IsLeast (FailsBehind rule before (c ∷ [])) none
+pub least-kept : (rule : LookingBack) (before : List BuilderCall) (c : BuilderCall) → fails_back rule before c ≡ false → IsLeast (FailsBehind rule before (c ∷ [])) none
 least-kept rule before c h = IsLeast-none (FailsBehind rule before (c ∷ [])) nowhere
   where
     nowhere : (j : ℕ) → FailsBehind rule before (c ∷ []) j → ⊥
@@ -136,13 +136,13 @@ least-kept rule before c h = IsLeast-none (FailsBehind rule before (c ∷ [])) n
 
 -- the edges of the bytes of a set that are below a number: how many they are, that the rule fails at none of them, and
 -- that these are taken in
-pub record AreBelow (rule : GraphRule) (how : ByteUse) (bytes : FinSet nat_cmp) (first seen : Seen) (b rank : ℕ) : Type 0 where
+pub record AreBelow (rule : LookingBack) (how : ByteUse) (bytes : FinSet nat_cmp) (first seen : Seen) (b rank : ℕ) : Type 0 where
   pub counted : rank ≡ length (bytes_below bytes b)
   pub kept : (before : List BuilderCall) (target : List ℕ) → TakesIn rule first before → IsLeast (FailsBehind rule before (map (byte_call how target) (bytes_below bytes b))) none
   pub taken : (before : List BuilderCall) (target : List ℕ) → TakesIn rule first before → TakesIn rule seen (before ++ map (byte_call how target) (bytes_below bytes b))
 
 -- before the first byte
-pub below-first : (rule : GraphRule) (how : ByteUse) (bytes : FinSet nat_cmp) (first : Seen) → AreBelow rule how bytes first first 0 0
+pub below-first : (rule : LookingBack) (how : ByteUse) (bytes : FinSet nat_cmp) (first : Seen) → AreBelow rule how bytes first first 0 0
 below-first rule how bytes first = record {
   counted = refl;
   kept = λ before target h. IsLeast-none (FailsBehind rule before []) (λ j f. f);
@@ -150,7 +150,7 @@ below-first rule how bytes first = record {
 }
 
 -- behind a byte that is not in the set
-pub below-out : (rule : GraphRule) (how : ByteUse) (bytes : FinSet nat_cmp) (first seen after : Seen) (b rank more : ℕ) → b < 256 → contains bytes b ≡ false → AreBelow rule how bytes first seen b rank → after ≡ seen → more ≡ rank → AreBelow rule how bytes first after (b + 1) more
+pub below-out : (rule : LookingBack) (how : ByteUse) (bytes : FinSet nat_cmp) (first seen after : Seen) (b rank more : ℕ) → b < 256 → contains bytes b ≡ false → AreBelow rule how bytes first seen b rank → after ≡ seen → more ≡ rank → AreBelow rule how bytes first after (b + 1) more
 below-out rule how bytes first seen after b rank more h out below e f =
     let same = sym (bytes_below_no bytes b h out) in
     record {
@@ -165,13 +165,13 @@ edges-more how target bytes b h held =
     ap (map (byte_call how target)) (bytes_below_yes bytes b h held) ∙ map-append (byte_call how target) (bytes_below bytes b) (b ∷ [])
 
 -- the first of them and it where the rule fails
-edges-least : (rule : GraphRule) (before : List BuilderCall) (how : ByteUse) (target : List ℕ) (bytes : FinSet nat_cmp) (b : ℕ) (found : Option ℕ) → b < 256 → contains bytes b ≡ true → IsLeast (FailsBehind rule before (map (byte_call how target) (bytes_below bytes b))) none → IsLeast (FailsBehind rule (before ++ map (byte_call how target) (bytes_below bytes b)) (byte_call how target b ∷ [])) found → IsLeast (FailsBehind rule before (map (byte_call how target) (bytes_below bytes (b + 1)))) (option_map (λ k. length (map (byte_call how target) (bytes_below bytes b)) + k) found)
+edges-least : (rule : LookingBack) (before : List BuilderCall) (how : ByteUse) (target : List ℕ) (bytes : FinSet nat_cmp) (b : ℕ) (found : Option ℕ) → b < 256 → contains bytes b ≡ true → IsLeast (FailsBehind rule before (map (byte_call how target) (bytes_below bytes b))) none → IsLeast (FailsBehind rule (before ++ map (byte_call how target) (bytes_below bytes b)) (byte_call how target b ∷ [])) found → IsLeast (FailsBehind rule before (map (byte_call how target) (bytes_below bytes (b + 1)))) (option_map (λ k. length (map (byte_call how target) (bytes_below bytes b)) + k) found)
 edges-least rule before how target bytes b found h held kept least =
     let few = map (byte_call how target) (bytes_below bytes b) in
     subst (λ xs. IsLeast (FailsBehind rule before xs) (option_map (λ k. length few + k) found)) (sym (edges-more how target bytes b h held)) (least-behind rule before few (byte_call how target b ∷ []) found kept least)
 
 -- behind a byte at whose edge the rule does not fail
-pub below-kept : (rule : GraphRule) (how : ByteUse) (bytes : FinSet nat_cmp) (first seen after : Seen) (b rank more : ℕ) → b < 256 → contains bytes b ≡ true → AreBelow rule how bytes first seen b rank → ((before : List BuilderCall) (target : List ℕ) → TakesIn rule seen before → fails_back rule before (byte_call how target b) ≡ false) → ((before : List BuilderCall) (target : List ℕ) → TakesIn rule seen before → TakesIn rule after (before ++ byte_call how target b ∷ [])) → more ≡ rank + 1 → AreBelow rule how bytes first after (b + 1) more
+pub below-kept : (rule : LookingBack) (how : ByteUse) (bytes : FinSet nat_cmp) (first seen after : Seen) (b rank more : ℕ) → b < 256 → contains bytes b ≡ true → AreBelow rule how bytes first seen b rank → ((before : List BuilderCall) (target : List ℕ) → TakesIn rule seen before → fails_back rule before (byte_call how target b) ≡ false) → ((before : List BuilderCall) (target : List ℕ) → TakesIn rule seen before → TakesIn rule after (before ++ byte_call how target b ∷ [])) → more ≡ rank + 1 → AreBelow rule how bytes first after (b + 1) more
 below-kept rule how bytes first seen after b rank more h held below keeps adds e =
     record {
       counted = count_yes bytes b rank more h held below.counted e;
@@ -185,7 +185,7 @@ below-kept rule how bytes first seen after b rank more h held below keeps adds e
     }
 
 -- at the first edge where the rule fails
-pub below-fails : (rule : GraphRule) (how : ByteUse) (bytes : FinSet nat_cmp) (first seen : Seen) (b rank : ℕ) (before : List BuilderCall) (target : List ℕ) → b < 256 → contains bytes b ≡ true → AreBelow rule how bytes first seen b rank → TakesIn rule first before → fails_back rule (before ++ map (byte_call how target) (bytes_below bytes b)) (byte_call how target b) ≡ true → IsLeast (FailsBehind rule before (map (byte_call how target) (bytes_of bytes))) (Some rank)
+pub below-fails : (rule : LookingBack) (how : ByteUse) (bytes : FinSet nat_cmp) (first seen : Seen) (b rank : ℕ) (before : List BuilderCall) (target : List ℕ) → b < 256 → contains bytes b ≡ true → AreBelow rule how bytes first seen b rank → TakesIn rule first before → fails_back rule (before ++ map (byte_call how target) (bytes_below bytes b)) (byte_call how target b) ≡ true → IsLeast (FailsBehind rule before (map (byte_call how target) (bytes_of bytes))) (Some rank)
 below-fails rule how bytes first seen b rank before target h held below s f =
     let edges = map (byte_call how target) in
     let few = edges (bytes_below bytes b) in
@@ -197,7 +197,7 @@ below-fails rule how bytes first seen b rank before target h held below s f =
     subst (λ xs. IsLeast (FailsBehind rule before xs) (Some rank)) (sym all) (least-before rule before next others rank least)
 
 -- behind the last byte
-pub below-last : (rule : GraphRule) (how : ByteUse) (bytes : FinSet nat_cmp) (first seen : Seen) (b rank : ℕ) (before : List BuilderCall) (target : List ℕ) → 256 ≤ b → AreBelow rule how bytes first seen b rank → TakesIn rule first before → IsLeast (FailsBehind rule before (map (byte_call how target) (bytes_of bytes))) none × TakesIn rule seen (before ++ map (byte_call how target) (bytes_of bytes))
+pub below-last : (rule : LookingBack) (how : ByteUse) (bytes : FinSet nat_cmp) (first seen : Seen) (b rank : ℕ) (before : List BuilderCall) (target : List ℕ) → 256 ≤ b → AreBelow rule how bytes first seen b rank → TakesIn rule first before → IsLeast (FailsBehind rule before (map (byte_call how target) (bytes_of bytes))) none × TakesIn rule seen (before ++ map (byte_call how target) (bytes_of bytes))
 below-last rule how bytes first seen b rank before target h below s =
     let all = bytes_below_all bytes b h in
     (subst (λ xs. IsLeast (FailsBehind rule before (map (byte_call how target) xs)) none) all (below.kept before target s), subst (λ xs. TakesIn rule seen (before ++ map (byte_call how target) xs)) all (below.taken before target s))
@@ -209,7 +209,7 @@ spread-use c s bytes how h e uses =
     (set.1, ap (spread c) e ∙ (spread-set c bytes set.0 set.1 set.2 set.3 ∙ ap (λ u. map (byte_call u set.1) (bytes_of bytes)) (sym (uses set.0 set.1 set.2 set.3))))
 
 -- of all the calls that kept ones stand for it fails first at one of these, if it fails at none of the kept ones before
-pub sets-found : (rule : GraphRule) (calls : List BuilderCall) (sets : List (Option (FinSet nat_cmp))) (i rank number : ℕ) (c : BuilderCall) (s : Option (FinSet nat_cmp)) (found : Option ℕ) → AreSets calls sets → i < length calls → c ≡ get_or calls i c → s ≡ get_or sets i s → number ≡ sum_by size_of (take i sets) → IsLeast (FailsBehind rule [] (all_calls (take i calls) (take i sets))) none → IsLeast (FailsBehind rule (all_calls (take i calls) (take i sets)) (spread c s)) found → found ≡ Some rank → IsLeast (FailsBehind rule [] (all_calls calls sets)) (Some (number + rank))
+pub sets-found : (rule : LookingBack) (calls : List BuilderCall) (sets : List (Option (FinSet nat_cmp))) (i rank number : ℕ) (c : BuilderCall) (s : Option (FinSet nat_cmp)) (found : Option ℕ) → AreSets calls sets → i < length calls → c ≡ get_or calls i c → s ≡ get_or sets i s → number ≡ sum_by size_of (take i sets) → IsLeast (FailsBehind rule [] (all_calls (take i calls) (take i sets))) none → IsLeast (FailsBehind rule (all_calls (take i calls) (take i sets)) (spread c s)) found → found ≡ Some rank → IsLeast (FailsBehind rule [] (all_calls calls sets)) (Some (number + rank))
 sets-found rule calls sets i rank number c s found h l e f n kept first_found is =
     let first = all_calls (take i calls) (take i sets) in
     let others = all_calls (drop (i + 1) calls) (drop (i + 1) sets) in
@@ -219,7 +219,7 @@ sets-found rule calls sets i rank number c s found h l e f n kept first_found is
     subst (λ m. IsLeast (FailsBehind rule [] (all_calls calls sets)) (Some m)) place (subst (λ xs. IsLeast (FailsBehind rule [] xs) (Some (length first + rank))) (sym all) (least-behind rule [] first (spread c s ++ others) (Some rank) kept (least-before rule first (spread c s) others rank least)))
 
 -- nor at those of the next kept one
-pub sets-kept : (rule : GraphRule) (calls : List BuilderCall) (sets : List (Option (FinSet nat_cmp))) (i : ℕ) (c : BuilderCall) (s : Option (FinSet nat_cmp)) → AreSets calls sets → i < length calls → c ≡ get_or calls i c → s ≡ get_or sets i s → IsLeast (FailsBehind rule [] (all_calls (take i calls) (take i sets))) none → IsLeast (FailsBehind rule (all_calls (take i calls) (take i sets)) (spread c s)) none → IsLeast (FailsBehind rule [] (all_calls (take (i + 1) calls) (take (i + 1) sets))) none
+pub sets-kept : (rule : LookingBack) (calls : List BuilderCall) (sets : List (Option (FinSet nat_cmp))) (i : ℕ) (c : BuilderCall) (s : Option (FinSet nat_cmp)) → AreSets calls sets → i < length calls → c ≡ get_or calls i c → s ≡ get_or sets i s → IsLeast (FailsBehind rule [] (all_calls (take i calls) (take i sets))) none → IsLeast (FailsBehind rule (all_calls (take i calls) (take i sets)) (spread c s)) none → IsLeast (FailsBehind rule [] (all_calls (take (i + 1) calls) (take (i + 1) sets))) none
 sets-kept rule calls sets i c s h l e f kept least =
     subst (λ xs. IsLeast (FailsBehind rule [] xs) none) (sym (all-more calls sets i c s h l e f)) (least-behind rule [] (all_calls (take i calls) (take i sets)) (spread c s) none kept least)
 

@@ -9,7 +9,7 @@ use Rattle.std.proofs.lemmas.List.Folds.{find-append, list_any-append}
 use Rattle.pp_rules.specs.declared.declaration.PropDecl.{PropDecl}
 use Rattle.pp_rules.specs.declared.declaration.Width.{Width}
 use Rattle.pp_rules.specs.declared.name_table.NameTable.{NameTable}
-use Rattle.pp_rules.specs.declared.declared_names.Names.{Names}
+use Rattle.pp_rules.specs.declared.declared.names.Names.{Names}
 use Rattle.pp_rules.specs.declared.call.NamedKind.{NamedKind}
 use Rattle.pp_rules.specs.declared.call.NamedEdge.{NamedEdge}
 use Rattle.pp_rules.specs.declared.call.BuilderCall.{BuilderCall}
@@ -19,7 +19,8 @@ use Rattle.pp_rules.specs.declared.call.Sort.TheVariants as sort
 use Rattle.pp_rules.specs.Calls.{declared_by, is_declared_by}
 use Rattle.pp_rules.specs.Declarations.{prop_decl}
 use Rattle.pp_rules.specs.Rules.Numbers.{declares_value_host}
-use Rattle.pp_rules.specs.steps.NameTables.{value_at, is_at, is_true_at, width_of, names_have, IsNames}
+use Rattle.pp_rules.specs.NameTables.{value_at, is_at, is_true_at}
+use Rattle.pp_rules.specs.steps.Declared.{width_of, names_have, IsNames}
 use Rattle.pp_rules.proofs.ListLemmas.{bytes_eq-comm}
 use Rattle.pp_rules.proofs.ListLemmas.{or_false}
 

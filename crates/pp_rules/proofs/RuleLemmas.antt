@@ -1,5 +1,6 @@
 -- Where a rule fails: at a call inside the list, and at its end.
 use Rattle.std.proofs.Common.{◌≡◌, ℕ, ◌+◌, ◌<◌, suc, List, [], ◌∷◌, ◌++◌, Bool, true, false, ◌==◌, length, slice_get, take, drop, get_or, Option, Some, refl, ap, sym, inl, inr, ◌∙◌, subst, arith, add-one}
+use Rattle.std.specs.Prelude.{IfSome}
 use Rattle.std.specs.Prelude.{None as none}
 use Rattle.std.specs.Bool.{then_some}
 use Rattle.std.specs.Option.{option_or}
@@ -10,7 +11,7 @@ use Rattle.std.proofs.lemmas.Bool.Decides.{nat_tests}
 use Rattle.pp_rules.specs.declared.call.BuilderCall.{BuilderCall}
 use Rattle.pp_rules.specs.declared.rules.GraphRule.{GraphRule}
 use Rattle.pp_rules.specs.Rules.{fails, fails_at, fails_at_end, FailsAt, Keeps}
-use Rattle.pp_rules.specs.steps.Seen.{IsFirstAmong}
+use Rattle.pp_rules.specs.steps.Seen.{IsFirstAmong, IsFirstFailing}
 
 -- at the call of a number
 pub fails_at-within : (rule : GraphRule) (calls : List BuilderCall) (i : ℕ) (c : BuilderCall) → i < length calls → c ≡ get_or calls i c → fails_at rule calls i ≡ fails rule calls (take i calls) c (drop (i + 1) calls)
@@ -33,6 +34,11 @@ pub first-more : (rule : GraphRule) (calls : List BuilderCall) (i : ℕ) (found 
 first-more rule calls i none true e before = (omega arith, e, before)
 first-more rule calls i none false e before = kept-more rule calls i e before
 first-more rule calls i (Some k) there e (low, fails, before) = (omega arith, fails, before)
+
+-- the first call at which a rule fails is one of them
+pub first-within : (rule : GraphRule) (calls : List BuilderCall) (found : Option ℕ) → IsFirstFailing rule calls found → IfSome found (λ i. i < length calls)
+first-within rule calls none first = tt
+first-within rule calls (Some i) first = first.0
 
 -- the call behind these
 pub slice_get-split : (before : List BuilderCall) (c : BuilderCall) (after : List BuilderCall) → slice_get (before ++ c ∷ after) (length before) ≡ Some c

@@ -9,7 +9,7 @@ use Rattle.pp_rules.specs.declared.call.NamedKind.{NamedKind}
 use Rattle.pp_rules.specs.declared.call.NamedEdge.{NamedEdge}
 use Rattle.pp_rules.specs.declared.call.BuilderCall.{BuilderCall}
 use Rattle.pp_rules.specs.declared.call.BuilderCall.TheVariants as call
-use Rattle.pp_rules.specs.declared.rules.GraphRule.{GraphRule}
+use Rattle.pp_rules.specs.declared.rules.looking_back.LookingBack.{LookingBack}
 use Rattle.pp_rules.specs.declared.rules.looking_back.seen.Seen.{Seen}
 use Rattle.pp_rules.specs.Calls.{since_after, since_node}
 use Rattle.pp_rules.specs.Edges.{edge_of, edges_of}
@@ -43,7 +43,7 @@ push-edge old new before c when target e added room h =
     room
 
 -- what a rule asks of one more call, by the case that the node compares in and the sums
-pub takes-one : (rule : GraphRule) (old new : Seen) (before : List BuilderCall) (c : BuilderCall) → new.lower ≡ lower_after old.lower c → (SumsUp old before → SumsUp new (before ++ c ∷ [])) → TakesIn rule old before → TakesIn rule new (before ++ c ∷ [])
+pub takes-one : (rule : LookingBack) (old new : Seen) (before : List BuilderCall) (c : BuilderCall) → new.lower ≡ lower_after old.lower c → (SumsUp old before → SumsUp new (before ++ c ∷ [])) → TakesIn rule old before → TakesIn rule new (before ++ c ∷ [])
 takes-one rule old new before c lower sums h = record {
   lower = lower ∙ (ap (λ was. lower_after was c) h.lower ∙ sym (fold_push lower_after false before c));
   sums = λ other. sums (h.sums other);

@@ -86,7 +86,7 @@ fails-rank rule named all before how target (b ∷ bytes) after a p (suc k) e l 
     (omega (arith, n, length_push before (byte_call how target b)))
 
 -- something stands at each place of a list
-there-is : {X : Type 0} (xs : List X) (i : ℕ) → i < length xs → (x : X) × (x ≡ get_or xs i x)
+pub there-is : {X : Type 0} (xs : List X) (i : ℕ) → i < length xs → (x : X) × (x ≡ get_or xs i x)
 there-is [] i l = absurd (omega arith)
 there-is (x ∷ xs) zero l = (x, refl)
 there-is (x ∷ xs) (suc i) l = there-is xs i (omega arith)

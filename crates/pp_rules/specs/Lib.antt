@@ -4,6 +4,7 @@ pub mod Calls
 pub mod Edges
 pub mod Declarations
 pub mod Keys
+pub mod NameTables
 pub mod Sets
 pub mod Rules
 pub mod steps

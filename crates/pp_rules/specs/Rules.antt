@@ -6,6 +6,7 @@ pub mod SortedKeys
 pub mod Numbers
 pub mod Form
 pub mod Limits
+pub mod Texts
 use Rattle.std.specs.Prelude.{ℕ, suc, ◌<◌, List, Option, Some, None, Bool, false, ◌&&◌, not, length, take, drop, slice_get, ◌==◌, IsTrue}
 use Rattle.pp_rules.specs.declared.call.BuilderCall.{BuilderCall}
 use Rattle.pp_rules.specs.declared.rules.GraphRule.{GraphRule}

@@ -1,7 +1,7 @@
 -- What private steps say of the tables that they keep. No public clause of a rule rests on these.
 pub mod Least
 pub mod ByNode
-pub mod NameTables
+pub mod Declared
 pub mod Lookups
 pub mod Clashes
 pub mod OwnKeys
@@ -11,3 +11,4 @@ pub mod Seen
 pub mod Gaps
 pub mod KeyFaults
 pub mod KeyTables
+pub mod EdgeFaults

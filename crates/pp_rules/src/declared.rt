@@ -1,19 +1,21 @@
 // What all the calls of a builder declare, by name.
 ghost use Rattle.std.specs.Prelude.{◌≡◌, IfOk};
-ghost use Rattle.pp_rules.specs.declared.call.Sort.TheVariants as sorts;
 ghost use Rattle.pp_rules.specs.Widths.{greatest as greatest_value};
 ghost use Rattle.pp_rules.specs.Calls.{is_declared};
 ghost use Rattle.pp_rules.specs.Declarations.{greatest_of as greatest_in, tables_of};
 ghost use Rattle.pp_rules.specs.Rules.Names.{has_entry as has_entry_of};
 ghost use Rattle.pp_rules.specs.Rules.Numbers.{is_value_host as is_value_host_of};
-ghost use Rattle.pp_rules.specs.steps.NameTables.{IsNames};
+ghost use Rattle.pp_rules.specs.steps.Declared.{IsNames};
 ghost use Rattle.pp_rules.specs.steps.Seen.{IsFirstFailing};
 
-use crate::call::BuilderCall;
+mod names;
+
+use crate::call::{BuilderCall, Sort};
 use crate::declaration::Width;
-use crate::declared_names::Names;
+use crate::declared::names::Names;
 use crate::name::Name;
 use crate::rules::GraphRule;
+pub(crate) use names::add_name;
 use std::alloc::{AllocError, Global};
 use std::marker::Model;
 
@@ -64,32 +66,11 @@ impl<'c> Declared<'c> {
         self.duplicate
     }
 
-    /// Whether some call declares a property of this name.
-    pub(crate) fn has_prop(&self, name: &Name) -> bool
-        ensures { result ≡ is_declared self.now (sorts.Prop, name.now) }
+    /// Whether some call declares this name of a sort. The entry and the finish rule have the empty name.
+    pub(crate) fn has(&self, sort: Sort, name: &Name) -> bool
+        ensures { result ≡ is_declared self.now (sort, name.now) }
     {
-        self.names.has_prop(name)
-    }
-
-    /// Whether some call declares a host of this name.
-    pub(crate) fn has_host(&self, name: &Name) -> bool
-        ensures { result ≡ is_declared self.now (sorts.Host, name.now) }
-    {
-        self.names.has_host(name)
-    }
-
-    /// Whether some call declares a span of this name.
-    pub(crate) fn has_span(&self, name: &Name) -> bool
-        ensures { result ≡ is_declared self.now (sorts.Span, name.now) }
-    {
-        self.names.has_span(name)
-    }
-
-    /// Whether some call declares a node of this name.
-    pub(crate) fn has_node(&self, name: &Name) -> bool
-        ensures { result ≡ is_declared self.now (sorts.Node, name.now) }
-    {
-        self.names.has_node(name)
+        self.names.has(sort, name)
     }
 
     /// Whether some call gives the entry.

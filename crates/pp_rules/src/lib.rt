@@ -5,7 +5,6 @@
 mod call;
 mod declaration;
 mod declared;
-mod declared_names;
 mod kept;
 mod name;
 mod name_table;
@@ -16,5 +15,6 @@ pub use declaration::{HostDecl, PropDecl, SpanDecl, Width};
 pub use declared::Declared;
 pub use kept::{ByteUse, Calls};
 pub use name::{Name, Reason, is_name, is_reason};
+pub use name_table::NameTable;
 pub use rules::numbers::Values;
 pub use rules::{GraphRule, first_fault};

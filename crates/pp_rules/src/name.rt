@@ -4,10 +4,9 @@ ghost use Rattle.pp_rules.specs.Names.{is_name as is_name_of, is_reason as is_re
 ghost use Rattle.std.specs.List.{list_all};
 
 use std::alloc::{AllocError, Global};
-use std::hash::{Hash, Hasher};
 use std::marker::Model;
 
-/// The name of a host code or a node. The type holds any list of at most 255 bytes; a graph holds only names
+/// The name of a property, a host code, a span or a node. The type holds any list of at most 255 bytes; a graph holds only names
 /// of 1 to 32 bytes: a letter or `_`, then letters, digits or `_`.
 #[derive(Debug, Drop)]
 pub struct Name {
@@ -64,21 +63,7 @@ impl Eq for Name {
     ghost laws = { nat_list_eq_equiv };
 }
 
-impl Hash for Name {
-    ghost use Rattle.std.proofs.Common.{ap};
-    ghost use Rattle.std.specs.Hash as fed;
-    ghost use Rattle.std.specs.Cmp.Lexicographic.{bytes_decides};
-
-    ghost hash_input = { fed.slice fed.u8 };
-
-    ghost respects_eq = { λ x y h. ap (fed.slice fed.u8) ((bytes_decides x y).0 h) };
-
-    fn hash<H: Hasher>(&self, state: &mut H) {
-        self.bytes().hash(state);
-    }
-}
-
-/// The reason that an error node gives. The type holds any list of at most 255 bytes; a graph holds only reasons
+/// The reason that an error node or a pause gives. The type holds any list of at most 255 bytes; a graph holds only reasons
 /// of 1 to 80 bytes from 0x20 to 0x7E without `"` and `\`.
 #[derive(Debug, Drop)]
 pub struct Reason {

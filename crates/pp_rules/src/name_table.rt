@@ -1,6 +1,7 @@
 // A table of values by name.
 ghost use Rattle.std.specs.Prelude.{◌≡◌, ℕ, List, IfOk, OnOk, IsTrue, ◌↔◌, Some, None, if◌then◌else◌, bytes_eq};
-ghost use Rattle.pp_rules.specs.steps.NameTables.{value_at};
+ghost use Rattle.std.specs.Option.{option_or};
+ghost use Rattle.pp_rules.specs.NameTables.{value_at, is_at};
 
 use crate::name::Name;
 use std::alloc::{AllocError, Global};
@@ -8,13 +9,13 @@ use std::collections::BTreeMap;
 
 /// Values by name, in the order of the names' bytes: no choice of names makes a look-up slow.
 #[derive(Drop)]
-pub(crate) struct NameTable<'c, V> {
+pub struct NameTable<'c, V> {
     entries: BTreeMap<&'c [u8], V>,
 }
 
 impl<'c, V: Copy> NameTable<'c, V> {
     /// No values. Takes no memory.
-    pub(crate) fn new(alloc: Global) -> NameTable<'c, V>
+    pub fn new(alloc: Global) -> NameTable<'c, V>
         ensures { (name : List ℕ) → value_at result name ≡ None }
     {
         NameTable {
@@ -30,7 +31,7 @@ impl<'c, V: Copy> NameTable<'c, V> {
     }
 
     /// The value at a name.
-    pub(crate) fn get(&self, name: &Name) -> Option<V>
+    pub fn get(&self, name: &Name) -> Option<V>
         ensures { result ≡ value_at self.now name.now }
     {
         self.entries.get(name.bytes()).copied()
@@ -43,5 +44,17 @@ impl<'c, V: Copy> NameTable<'c, V> {
     {
         let before = self.entries.insert(name.bytes(), value)?;
         Ok(before)
+    }
+
+    /// Puts a value at a name where there is none, and tells whether there was one. The name isn't copied.
+    pub fn add_first(&mut self, name: &'c Name, value: V) -> Result<bool, AllocError>
+        ensures added { OnOk result ((other : List ℕ) → value_at self.new other ≡ option_or (value_at self.old other) (if bytes_eq name.now other then Some value else None)) }
+        ensures there { IfOk result (λ there. there ≡ is_at self.old name.now) }
+    {
+        if let Some(first) = self.set(name, value)? {
+            self.set(name, first)?;
+            return Ok(true);
+        }
+        Ok(false)
     }
 }

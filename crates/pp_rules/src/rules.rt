@@ -1,13 +1,13 @@
 // The rules, tried over the calls in order. Each has its module, or shares it with those that are tried together.
-ghost use Rattle.std.specs.Prelude.{◌≡◌, ◌<◌, ◌≤◌, ◌^◌, List, length, false, IsNone, IsTrue, IfSome, IfOk};
-ghost use Rattle.pp_rules.specs.declared.call.BuilderCall.{BuilderCall as Call};
-ghost use Rattle.pp_rules.specs.Rules.{KeepsRules, IsFirstFault, FailsAt, fails as fails_of, fails_at_end as fails_at_end_of};
+ghost use Rattle.std.specs.Prelude.{◌≡◌, ◌<◌, ◌≤◌, ◌^◌, length, false, IsNone, IfSome, IfOk};
+ghost use Rattle.pp_rules.specs.Rules.{KeepsRules, IsFirstFault, FailsAt, fails_at_end};
+ghost use Rattle.pp_rules.specs.declared.rules.GraphRule.{GraphRule as Rule};
 ghost use Rattle.pp_rules.specs.declared.rules.GraphRule.TheVariants as rules;
 ghost use Rattle.pp_rules.specs.Sets.{all_calls, AreSets};
+ghost use Rattle.pp_rules.specs.Rules.Texts.{text_of};
 ghost use Rattle.pp_rules.specs.steps.Least.{IsLeast};
-ghost use Rattle.pp_rules.specs.steps.Clashes.{ComesAgainAt};
-ghost use Rattle.pp_rules.specs.steps.KeyFaults.{AreFirst};
-ghost use Rattle.pp_rules.specs.steps.Seen.{IsByName, IsByItself, IsFirstFailing};
+ghost use Rattle.pp_rules.specs.steps.Seen.{IsByName, IsFirstFailing};
+ghost use Rattle.pp_rules.specs.steps.EdgeFaults.{AreEdgeFaults};
 
 pub(crate) mod clash;
 pub(crate) mod form;
@@ -20,59 +20,83 @@ pub(crate) mod sorted_keys;
 
 use crate::call::BuilderCall;
 use crate::kept::number_of;
-use crate::rules::form::is_empty_key;
-use crate::rules::looking_back::first_looking_back;
-use crate::rules::names::names_unknown;
-use crate::rules::numbers::{Values, is_too_wide, is_value_fault};
-use crate::rules::otherwise::lacks_otherwise;
-use crate::rules::sorted_keys::faults::{KeyFaults, lesser};
+use crate::rules::form::first_empty_key;
+use crate::rules::looking_back::{LookingBack, first_looking_back};
+use crate::rules::names::first_unknown;
+use crate::rules::numbers::{Values, first_too_wide, first_value_fault};
+use crate::rules::otherwise::first_without_otherwise;
+use crate::rules::sorted_keys::faults::lesser;
 use crate::rules::sorted_keys::first_key_faults;
 use pp_bytes::ByteSet;
 use std::alloc::{AllocError, Global};
-use thiserror::Error;
+use std::error::Error;
+use std::fmt;
 
 /// The rules of a graph, in the order in which they are tried.
-#[derive(Clone, Copy, Debug, PartialEq, Eq, Error)]
+#[derive(Clone, Copy, Debug, PartialEq, Eq)]
 pub enum GraphRule {
     /// A name that an earlier one of its kind has; a second entry or finish rule.
-    #[error("duplicate name")]
     DuplicateName,
     /// A call that names what is nowhere declared.
-    #[error("unknown name")]
     UnknownName,
     /// No call gives the entry.
-    #[error("no entry")]
     NoEntry,
     /// A node other than an error has no otherwise.
-    #[error("no otherwise")]
     NoOtherwise,
     /// The later of two equal keys, peek bytes or answer numbers of one node, or of a peek byte and a key that
     /// begins with it.
-    #[error("key clash")]
     KeyClash,
     /// The later of two keys of one node where one is a proper prefix of the other and a longer proper prefix of
     /// the longer key isn't a key.
-    #[error("prefix gap")]
     PrefixGap,
     /// An edge with a number to a node that isn't an invoke of signature value; an edge without one, or the entry,
-    /// to such a node; a finish host of signature value.
-    #[error("value target")]
+    /// to an invoke of signature value; a finish host of signature value.
     ValueTarget,
     /// A constant or a most wider than its property; a number that an edge carries wider than the property that
     /// its target stores.
-    #[error("value too wide")]
     ValueTooWide,
     /// An empty key.
-    #[error("empty key")]
     EmptyKey,
     /// A key or a peek byte from A to Z in a node that compares in lower case.
-    #[error("key not folded")]
     KeyNotFolded,
     /// A count passes its limit: 4,096 nodes, 64 properties, 32 spans, 64 host codes, 2,048 keys of one node, 64
     /// bytes of a key, and a weight of 20,000 key bytes, peek bytes and answers over all nodes.
-    #[error("too many")]
     TooMany,
 }
+
+impl GraphRule {
+    /// The rule's name, as faults tell it.
+    pub fn text(self) -> &'static str
+        ensures { result.now ≡ text_of self }
+    {
+        match self {
+            GraphRule::DuplicateName => "duplicate name",
+            GraphRule::UnknownName => "unknown name",
+            GraphRule::NoEntry => "no entry",
+            GraphRule::NoOtherwise => "no otherwise",
+            GraphRule::KeyClash => "key clash",
+            GraphRule::PrefixGap => "prefix gap",
+            GraphRule::ValueTarget => "value target",
+            GraphRule::ValueTooWide => "value too wide",
+            GraphRule::EmptyKey => "empty key",
+            GraphRule::KeyNotFolded => "key not folded",
+            GraphRule::TooMany => "too many",
+        }
+    }
+}
+
+impl fmt::Display for GraphRule {
+    ghost use Rattle.std.specs.Prelude.{Some};
+    ghost use Rattle.pp_rules.specs.Rules.Texts.{text_of};
+
+    ghost output = { λ rule. Some (text_of rule) };
+
+    fn fmt<W: fmt::Write>(&self, f: &mut fmt::Formatter<W>) -> fmt::Result {
+        f.write(self.text())
+    }
+}
+
+impl Error for GraphRule {}
 
 const RULES: [GraphRule; 11] = [
     GraphRule::DuplicateName,
@@ -101,123 +125,95 @@ pub fn first_fault(
     ensures first { IfOk result (λ found. IfSome found (λ fault. IsFirstFault (all_calls values.now sets.now) fault.0 fault.1)) }
     ensures within { IfOk result (λ found. IfSome found (λ fault. fault.1 ≤ length (all_calls values.now sets.now))) }
 {
-    // Two rules ask for these, and the keys are sorted once for both.
-    let keys = first_key_faults(alloc, values.declared().calls(), sets)?;
+    let edges = edge_faults(alloc, values.declared().calls(), sets)?;
     for rule in RULES {
-        if let Some(call) = first_failure(alloc, rule, values, sets, keys)? {
+        if let Some(call) = first_failure(rule, values, sets, edges) {
             return Ok(Some((rule, call)));
         }
     }
     Ok(None)
 }
 
-// The first call at which a rule fails, by the first faults of keys that sorting tells; the count of calls stands for the
-// end.
+// The first call at which a rule fails; the count of all calls stands for the end.
 fn first_failure(
-    alloc: Global,
     rule: GraphRule,
     values: &Values<'_>,
     sets: &[Option<ByteSet>],
-    keys: KeyFaults,
-) -> Result<Option<usize>, AllocError>
-    requires keys { AreFirst (ComesAgainAt (all_calls values.now sets.now)) (FailsAt rules.PrefixGap (all_calls values.now sets.now)) keys }
-    requires sets { AreSets values.now sets.now }
-    requires small { length (all_calls values.now sets.now) < 2 ^ 32 }
-    ensures { IfOk result (IsLeast (FailsAt rule (all_calls values.now sets.now))) }
-{
-    let calls = values.declared().calls();
-    match rule {
-        GraphRule::PrefixGap => Ok(keys.gap),
-        GraphRule::KeyClash => Ok(lesser(
-            first_looking_back(alloc, rule, calls, sets)?,
-            keys.again,
-        )),
-        GraphRule::KeyNotFolded | GraphRule::TooMany => {
-            first_looking_back(alloc, rule, calls, sets)
-        }
-        _ => Ok(first_by_name(rule, values, sets)),
-    }
-}
-
-// The same of a rule that asks nothing of the byte of an edge: it is tried at the kept calls.
-fn first_by_name(rule: GraphRule, values: &Values<'_>, sets: &[Option<ByteSet>]) -> Option<usize>
-    requires rule { IsByName rule }
+    edges: EdgeFaults,
+) -> Option<usize>
+    requires edges { AreEdgeFaults (all_calls values.now sets.now) edges }
     requires sets { AreSets values.now sets.now }
     requires small { length (all_calls values.now sets.now) < 2 ^ 32 }
     ensures { IsLeast (FailsAt rule (all_calls values.now sets.now)) result }
 {
-    match first_failing_call(rule, values) {
-        Some(place) => Some(number_of(sets, place)),
-        None => failure_at_end(rule, values, sets),
-    }
-}
-
-// The first kept call at which such a rule fails, the end aside.
-fn first_failing_call(rule: GraphRule, values: &Values<'_>) -> Option<usize>
-    requires { IsByName rule }
-    ensures { IsFirstFailing rule values.now result }
-{
+    let declared = values.declared();
     match rule {
-        GraphRule::DuplicateName => values.declared().duplicate(),
-        // It fails at the end alone.
-        GraphRule::NoEntry => None,
-        _ => first_by_itself(rule, values),
+        GraphRule::DuplicateName => number_at(values, sets, declared.duplicate()),
+        GraphRule::UnknownName => number_at(values, sets, first_unknown(declared)),
+        GraphRule::NoEntry => end_without_entry(values, sets),
+        GraphRule::NoOtherwise => number_at(values, sets, first_without_otherwise(values)),
+        GraphRule::KeyClash => edges.clash,
+        GraphRule::PrefixGap => edges.gap,
+        GraphRule::ValueTarget => number_at(values, sets, first_value_fault(values)),
+        GraphRule::ValueTooWide => number_at(values, sets, first_too_wide(values)),
+        GraphRule::EmptyKey => number_at(values, sets, first_empty_key(values)),
+        GraphRule::KeyNotFolded => edges.not_folded,
+        GraphRule::TooMany => edges.too_many,
     }
 }
 
-// The first kept call at which a rule fails that asks nothing of the calls before one.
-fn first_by_itself(rule: GraphRule, values: &Values<'_>) -> Option<usize>
-    requires { IsByItself rule }
-    ensures { IsFirstFailing rule values.now result }
+// The first calls at which the rules fail that ask for the byte of an edge.
+#[derive(Clone, Copy)]
+struct EdgeFaults {
+    clash: Option<usize>,
+    gap: Option<usize>,
+    not_folded: Option<usize>,
+    too_many: Option<usize>,
+}
+
+fn edge_faults(
+    alloc: Global,
+    calls: &[BuilderCall],
+    sets: &[Option<ByteSet>],
+) -> Result<EdgeFaults, AllocError>
+    requires sets { AreSets calls.now sets.now }
+    requires small { length (all_calls calls.now sets.now) < 2 ^ 32 }
+    ensures { IfOk result (AreEdgeFaults (all_calls calls.now sets.now)) }
 {
-    let calls = values.declared().calls();
-    for i in 0..calls.len() {
-        if fails(rule, values, &calls[i], &calls[i + 1..]) {
-            return Some(i);
-        }
-    }
-    None
+    let keys = first_key_faults(alloc, calls, sets)?;
+    let clash = first_looking_back(alloc, LookingBack::KeyClash, calls, sets)?;
+    let not_folded = first_looking_back(alloc, LookingBack::KeyNotFolded, calls, sets)?;
+    let too_many = first_looking_back(alloc, LookingBack::TooMany, calls, sets)?;
+    Ok(EdgeFaults {
+        clash: lesser(clash, keys.again),
+        gap: keys.gap,
+        not_folded,
+        too_many,
+    })
 }
 
-// The count of all calls, if a rule fails behind the last of them.
-fn failure_at_end(rule: GraphRule, values: &Values<'_>, sets: &[Option<ByteSet>]) -> Option<usize>
+// The number among all calls of the first kept one at which a rule fails that asks nothing of the byte of an edge.
+fn number_at(values: &Values<'_>, sets: &[Option<ByteSet>], place: Option<usize>) -> Option<usize>
+    requires within { IfSome place (λ p. p < length values.now) }
     requires sets { AreSets values.now sets.now }
     requires small { length (all_calls values.now sets.now) < 2 ^ 32 }
-    ensures none { IsNone result → fails_at_end_of rule values.now ≡ false }
-    ensures some { IfSome result (λ i. (i ≡ length (all_calls values.now sets.now)) × IsTrue (fails_at_end_of rule values.now)) }
+    ensures { (rule : Rule) → IsByName rule → fails_at_end rule values.now ≡ false → IsFirstFailing rule values.now place → IsLeast (FailsAt rule (all_calls values.now sets.now)) result }
 {
-    if fails_at_end(rule, values) {
-        Some(number_of(sets, sets.len()))
-    } else {
+    match place {
+        Some(place) => Some(number_of(sets, place)),
+        None => None,
+    }
+}
+
+// The count of all calls, if none of them gives the entry.
+fn end_without_entry(values: &Values<'_>, sets: &[Option<ByteSet>]) -> Option<usize>
+    requires sets { AreSets values.now sets.now }
+    requires small { length (all_calls values.now sets.now) < 2 ^ 32 }
+    ensures { IsLeast (FailsAt rules.NoEntry (all_calls values.now sets.now)) result }
+{
+    if values.declared().has_entry() {
         None
-    }
-}
-
-fn fails_at_end(rule: GraphRule, values: &Values<'_>) -> bool
-    ensures { result ≡ fails_at_end_of rule values.now }
-{
-    match rule {
-        GraphRule::NoEntry => !values.declared().has_entry(),
-        _ => false,
-    }
-}
-
-// Whether such a rule fails at a call, with what all the calls declare and those behind it.
-fn fails(rule: GraphRule, values: &Values<'_>, call: &BuilderCall, after: &[BuilderCall]) -> bool
-    requires { IsByItself rule }
-    ensures { (before : List Call) → result ≡ fails_of rule values.now before call.now after.now }
-{
-    match rule {
-        GraphRule::UnknownName => names_unknown(values.declared(), call),
-        GraphRule::NoOtherwise => lacks_otherwise(call, after),
-        GraphRule::ValueTarget => is_value_fault(values, call),
-        GraphRule::ValueTooWide => is_too_wide(values, call),
-        GraphRule::EmptyKey => is_empty_key(call),
-        GraphRule::DuplicateName
-        | GraphRule::NoEntry
-        | GraphRule::KeyClash
-        | GraphRule::PrefixGap
-        | GraphRule::KeyNotFolded
-        | GraphRule::TooMany => false,
+    } else {
+        Some(number_of(sets, sets.len()))
     }
 }

@@ -6,8 +6,9 @@ use Rattle.std.specs.List.{list_any}
 use Rattle.pp_rules.specs.declared.call.BuilderCall.{BuilderCall}
 use Rattle.pp_rules.specs.declared.name_table.NameTable.{NameTable}
 use Rattle.pp_rules.specs.declared.rules.GraphRule.TheVariants.{DuplicateName}
-use Rattle.pp_rules.specs.declared.declared_names.Names.{Names}
-use Rattle.pp_rules.specs.steps.NameTables.{is_at, value_at, IsNames}
+use Rattle.pp_rules.specs.declared.declared.names.Names.{Names}
+use Rattle.pp_rules.specs.NameTables.{is_at, value_at}
+use Rattle.pp_rules.specs.steps.Declared.{IsNames}
 use Rattle.pp_rules.specs.steps.Seen.{IsFirstFailing}
 use Rattle.pp_rules.specs.Rules.Numbers.{is_value_node, stores_narrow}
 

@@ -5,9 +5,10 @@ use Rattle.std.specs.FinSet as set
 use Rattle.pp_rules.specs.declared.rules.clash.key_set.KeySet.{KeySet}
 use Rattle.pp_rules.specs.Keys.{is_key}
 use Rattle.pp_rules.specs.Rules.Clash.{begins_with_byte}
+use Rattle.pp_rules.specs.Rules.Limits.{most_keys}
 
 -- the table has these keys: it finds those of one byte and the byte that each begins with, and counts them
 pub record HasKeys (table : KeySet) (keys : List (List ℕ)) : Type 0 where
   pub bytes : (b : ℕ) → set.contains table.bytes b ≡ is_key keys (b ∷ [])
   pub first_bytes : (b : ℕ) → set.contains table.first_bytes b ≡ list_any (begins_with_byte b) keys
-  pub more : table.more ≡ 2048 - length keys
+  pub more : table.more ≡ most_keys - length keys

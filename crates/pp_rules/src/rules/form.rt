@@ -1,14 +1,31 @@
 // The rules on the form of a key: empty key, key not folded.
-ghost use Rattle.std.specs.Prelude.{◌≡◌};
+ghost use Rattle.std.specs.Prelude.{◌≡◌, ◌<◌, length, IfSome};
 ghost use Rattle.std.specs.List.{list_any};
+ghost use Rattle.pp_rules.specs.declared.rules.GraphRule.TheVariants as rules;
+ghost use Rattle.pp_rules.specs.steps.Seen.{IsFirstFailing};
 ghost use Rattle.pp_rules.specs.Keys.{is_upper_case as is_upper_case_of};
 ghost use Rattle.pp_rules.specs.Edges.{edge_of};
 ghost use Rattle.pp_rules.specs.Rules.Form.{is_empty_key as is_empty_key_of, has_upper_case as has_upper_case_of};
 
 use crate::call::{BuilderCall, NamedEdge};
+use crate::rules::numbers::Values;
 
-/// Whether a call adds an empty key.
-pub(crate) fn is_empty_key(call: &BuilderCall) -> bool
+/// The first call that adds an empty key.
+pub(crate) fn first_empty_key(values: &Values<'_>) -> Option<usize>
+    ensures first { IsFirstFailing rules.EmptyKey values.now result }
+    ensures within { IfSome result (λ i. i < length values.now) }
+{
+    let calls = values.declared().calls();
+    for i in 0..calls.len() {
+        if is_empty_key(&calls[i]) {
+            return Some(i);
+        }
+    }
+    None
+}
+
+// Whether a call adds an empty key.
+fn is_empty_key(call: &BuilderCall) -> bool
     ensures { result ≡ is_empty_key_of (edge_of call.now) }
 {
     match call {

@@ -1,4 +1,4 @@
-// The limits of a graph, and what the calls so far leave of them.
+// The rule on the limits of a graph: too many.
 ghost use Rattle.std.specs.Prelude.{◌≡◌, ℕ, List, [], ◌∷◌, ◌++◌};
 ghost use Rattle.pp_rules.specs.declared.call.BuilderCall.{BuilderCall as Call};
 ghost use Rattle.pp_rules.specs.declared.kept.ByteUse.{ByteUse};
@@ -7,6 +7,24 @@ ghost use Rattle.pp_rules.specs.steps.Room.{HasRoom};
 ghost use Rattle.pp_rules.specs.Rules.Limits.{weight_of_edge};
 
 use crate::call::{BuilderCall, NamedEdge};
+
+/// How many properties, host codes, spans and nodes a graph has at most.
+const MOST_PROPS: usize = 64;
+
+const MOST_HOSTS: usize = 64;
+
+const MOST_SPANS: usize = 32;
+
+const MOST_NODES: usize = 4096;
+
+/// How many bytes a key has at most.
+pub(crate) const MOST_KEY_BYTES: usize = 64;
+
+/// How many keys a node has at most.
+pub(crate) const MOST_KEYS: usize = 2048;
+
+/// How many key bytes, peek bytes and answers all the nodes have at most.
+const MOST_WEIGHT: usize = 20_000;
 
 /// What is left up to each limit: how many more properties, hosts, spans and nodes fit, and the least weight that
 /// is too much. None of them falls below 0, so what passed a limit stays past it.
@@ -25,11 +43,11 @@ impl Room {
         ensures { HasRoom result [] }
     {
         Room {
-            props: 64,
-            hosts: 64,
-            spans: 32,
-            nodes: 4096,
-            weight: 20_001,
+            props: MOST_PROPS,
+            hosts: MOST_HOSTS,
+            spans: MOST_SPANS,
+            nodes: MOST_NODES,
+            weight: MOST_WEIGHT + 1,
         }
     }
 

@@ -1,4 +1,4 @@
-// The rules that look back from a call: at the edges of its node so far, and at the counts.
+// The rules that look back from a call: at the edges of its node so far, and at the counts. They are tried edge by edge.
 ghost use Rattle.std.specs.Prelude.{◌<◌, ◌^◌, ◌++◌, ◌∷◌, ℕ, List, [], length, map, IsNone, IfOk};
 ghost use Rattle.pp_bytes.specs.Bytes.{bytes_of};
 ghost use Rattle.pp_rules.specs.declared.call.BuilderCall.{BuilderCall as Call};
@@ -10,16 +10,22 @@ pub(crate) mod seen;
 
 use crate::call::BuilderCall;
 use crate::kept::{ByteUse, number_of, use_of};
-use crate::rules::GraphRule;
 use crate::rules::looking_back::seen::Seen;
 use pp_bytes::ByteSet;
 use std::alloc::{AllocError, Global};
 
-/// The first call at which such a rule fails, of all the calls that the kept ones stand for, with the set of each. Of
-/// key clashes it tells those that are not equal keys of none or several bytes.
+/// A rule that looks back. Of key clashes it is about those that are not equal keys of none or several bytes.
+#[derive(Clone, Copy)]
+pub(crate) enum LookingBack {
+    KeyClash,
+    KeyNotFolded,
+    TooMany,
+}
+
+/// The first call at which such a rule fails, of all the calls that the kept ones stand for, with the set of each.
 pub(crate) fn first_looking_back(
     alloc: Global,
-    rule: GraphRule,
+    rule: LookingBack,
     calls: &[BuilderCall],
     sets: &[Option<ByteSet>],
 ) -> Result<Option<usize>, AllocError>
@@ -39,7 +45,7 @@ pub(crate) fn first_looking_back(
 // The rank of the first call at which such a rule fails, of those that a kept one stands for; where there is none, all
 // of them are taken in.
 fn first_of_kept(
-    rule: GraphRule,
+    rule: LookingBack,
     seen: &mut Seen,
     call: &BuilderCall,
     set: &Option<ByteSet>,
@@ -56,7 +62,7 @@ fn first_of_kept(
 
 // The same of one call.
 fn first_of_one(
-    rule: GraphRule,
+    rule: LookingBack,
     seen: &mut Seen,
     call: &BuilderCall,
 ) -> Result<Option<usize>, AllocError>
@@ -68,7 +74,7 @@ fn first_of_one(
 }
 
 // The same of the edges of a set.
-fn first_of_set(rule: GraphRule, seen: &mut Seen, how: ByteUse, bytes: &ByteSet) -> Option<usize>
+fn first_of_set(rule: LookingBack, seen: &mut Seen, how: ByteUse, bytes: &ByteSet) -> Option<usize>
     ensures fails { (before : List Call) (target : List ℕ) → TakesIn rule seen.old before → IsLeast (FailsBehind rule before (map (byte_call how target) (bytes_of bytes.now))) result }
     ensures taken { IsNone result → (before : List Call) (target : List ℕ) → TakesIn rule seen.old before → TakesIn rule seen.new (before ++ map (byte_call how target) (bytes_of bytes.now)) }
 {

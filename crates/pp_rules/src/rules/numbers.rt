@@ -1,13 +1,14 @@
 // Numbers that edges carry, and the widths of properties.
-ghost use Rattle.std.specs.Prelude.{◌≡◌, ◌||◌, ◌&&◌, ℕ, List, nat_lt, bytes_eq, IfOk, OnOk};
+ghost use Rattle.std.specs.Prelude.{◌≡◌, ◌||◌, ◌&&◌, ℕ, List, nat_lt, bytes_eq, IfOk, OnOk, ◌<◌, length, IfSome};
 ghost use Rattle.std.specs.List.{list_any};
+ghost use Rattle.pp_rules.specs.declared.rules.GraphRule.TheVariants as rules;
+ghost use Rattle.pp_rules.specs.steps.Seen.{IsFirstFailing};
 ghost use Rattle.pp_rules.specs.Rules.Numbers.{is_value_fault as is_value_fault_of, is_value_node as is_value_node_of, kind_takes_value as kind_takes_value_of, code_takes_value as code_takes_value_of, adds_value_node, carries_number as carries_number_of, is_too_wide as is_too_wide_of, is_wide_kind as is_wide_kind_of, is_wide_code as is_wide_code_of, is_wide_edge as is_wide_edge_of, stores_narrow as stores_narrow_of};
-ghost use Rattle.pp_rules.specs.steps.NameTables.{is_at, value_at};
+ghost use Rattle.pp_rules.specs.NameTables.{is_at, value_at};
 ghost use Rattle.pp_rules.specs.steps.Lookups.{is_below as is_below_of};
 
 use crate::call::{BuilderCall, NamedCode, NamedEdge, NamedKind};
-use crate::declared::Declared;
-use crate::declared_names::add_name;
+use crate::declared::{Declared, add_name};
 use crate::name::Name;
 use crate::name_table::NameTable;
 use std::alloc::{AllocError, Global};
@@ -81,9 +82,23 @@ fn is_below(most: Option<u64>, number: u32) -> bool
     }
 }
 
-/// Whether an edge with a number leads to a node that isn't an invoke of signature value, an edge without one or
-/// the entry to such a node, or a finish rule asks a host of signature value.
-pub(crate) fn is_value_fault(values: &Values<'_>, call: &BuilderCall) -> bool
+/// The first call at which a value has a wrong target.
+pub(crate) fn first_value_fault(values: &Values<'_>) -> Option<usize>
+    ensures first { IsFirstFailing rules.ValueTarget values.now result }
+    ensures within { IfSome result (λ i. i < length values.now) }
+{
+    let calls = values.declared().calls();
+    for i in 0..calls.len() {
+        if is_value_fault(values, &calls[i]) {
+            return Some(i);
+        }
+    }
+    None
+}
+
+// Whether an edge with a number leads to a node that isn't an invoke of signature value, an edge without one or
+// the entry to such a node, or a finish rule asks a host of signature value.
+fn is_value_fault(values: &Values<'_>, call: &BuilderCall) -> bool
     ensures { result ≡ is_value_fault_of values.now call.now }
 {
     match call {
@@ -128,9 +143,23 @@ fn code_takes_value(declared: &Declared<'_>, code: &NamedCode) -> bool
     }
 }
 
-/// Whether a call gives a constant or a most that its property can't hold, or an edge with a number that the
-/// property which its target stores can't hold.
-pub(crate) fn is_too_wide(values: &Values<'_>, call: &BuilderCall) -> bool
+/// The first call with a value that is too wide.
+pub(crate) fn first_too_wide(values: &Values<'_>) -> Option<usize>
+    ensures first { IsFirstFailing rules.ValueTooWide values.now result }
+    ensures within { IfSome result (λ i. i < length values.now) }
+{
+    let calls = values.declared().calls();
+    for i in 0..calls.len() {
+        if is_too_wide(values, &calls[i]) {
+            return Some(i);
+        }
+    }
+    None
+}
+
+// Whether a call gives a constant or a most that its property can't hold, or an edge with a number that the
+// property which its target stores can't hold.
+fn is_too_wide(values: &Values<'_>, call: &BuilderCall) -> bool
     ensures { result ≡ is_too_wide_of values.now call.now }
 {
     match call {

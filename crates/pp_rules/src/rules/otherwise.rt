@@ -1,12 +1,29 @@
 // The rule on the otherwise of a node: no otherwise.
-ghost use Rattle.std.specs.Prelude.{◌≡◌};
+ghost use Rattle.std.specs.Prelude.{◌≡◌, ◌<◌, length, IfSome};
 ghost use Rattle.std.specs.List.{list_any};
+ghost use Rattle.pp_rules.specs.declared.rules.GraphRule.TheVariants as rules;
+ghost use Rattle.pp_rules.specs.steps.Seen.{IsFirstFailing};
 ghost use Rattle.pp_rules.specs.Rules.Otherwise.{lacks_otherwise as lacks_otherwise_of, needs_otherwise as needs_otherwise_of, is_otherwise};
 
 use crate::call::{BuilderCall, NamedEdge, NamedKind, own_calls};
+use crate::rules::numbers::Values;
 
-/// Whether a call adds a node other than an error, and none of the calls that belong to it is an otherwise.
-pub(crate) fn lacks_otherwise(call: &BuilderCall, after: &[BuilderCall]) -> bool
+/// The first call that adds a node without an otherwise.
+pub(crate) fn first_without_otherwise(values: &Values<'_>) -> Option<usize>
+    ensures first { IsFirstFailing rules.NoOtherwise values.now result }
+    ensures within { IfSome result (λ i. i < length values.now) }
+{
+    let calls = values.declared().calls();
+    for i in 0..calls.len() {
+        if lacks_otherwise(&calls[i], &calls[i + 1..]) {
+            return Some(i);
+        }
+    }
+    None
+}
+
+// Whether a call adds a node other than an error, and none of the calls that belong to it is an otherwise.
+fn lacks_otherwise(call: &BuilderCall, after: &[BuilderCall]) -> bool
     ensures { result ≡ lacks_otherwise_of call.now after.now }
 {
     match call {

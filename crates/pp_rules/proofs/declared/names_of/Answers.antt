@@ -3,7 +3,7 @@ use Rattle.std.specs.Option.{option_or}
 use Rattle.std.proofs.lemmas.List.{take_more}
 use Rattle.pp_rules.specs.declared.rules.GraphRule.TheVariants.{DuplicateName}
 use Rattle.pp_rules.specs.Rules.{fails_at}
-use Rattle.pp_rules.specs.steps.NameTables.{IsNames}
+use Rattle.pp_rules.specs.steps.Declared.{IsNames}
 use Rattle.pp_rules.specs.steps.Seen.{IsFirstAmong}
 use Rattle.pp_rules.proofs.RuleLemmas.{fails_at-within, first-more}
 use Rattle.pp_rules.proofs.declared.names_of.Goals as goal

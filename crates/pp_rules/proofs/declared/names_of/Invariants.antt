@@ -1,6 +1,6 @@
 use Rattle.std.proofs.Common.{take}
 use Rattle.pp_rules.specs.declared.rules.GraphRule.TheVariants.{DuplicateName}
-use Rattle.pp_rules.specs.steps.NameTables.{IsNames}
+use Rattle.pp_rules.specs.steps.Declared.{IsNames}
 use Rattle.pp_rules.specs.steps.Seen.{IsFirstAmong}
 use Rattle.pp_rules.proofs.declared.names_of.Given as goal
 

@@ -4,8 +4,10 @@ ghost use Rattle.std.specs.FinSet as set;
 ghost use Rattle.std.specs.List.{list_any};
 ghost use Rattle.pp_rules.specs.Keys.{is_key};
 ghost use Rattle.pp_rules.specs.Rules.Clash.{begins_with_byte};
+ghost use Rattle.pp_rules.specs.Rules.Limits.{most_keys};
 ghost use Rattle.pp_rules.specs.steps.OwnKeys.{HasKeys};
 
+use crate::rules::limits::MOST_KEYS;
 use pp_bytes::ByteSet;
 
 /// The keys of one node: those of one byte, the bytes that the keys begin with, and how many more fit.
@@ -24,7 +26,7 @@ impl KeySet {
         KeySet {
             bytes: ByteSet::new(),
             first_bytes: ByteSet::new(),
-            more: 2048,
+            more: MOST_KEYS,
         }
     }
 
@@ -72,7 +74,7 @@ impl KeySet {
 
     /// Whether one more key is too many.
     pub(crate) fn is_full(&self) -> bool
-        ensures { (keys : List (List ℕ)) → HasKeys self.now keys → result ≡ nat_le 2048 (length keys) }
+        ensures { (keys : List (List ℕ)) → HasKeys self.now keys → result ≡ nat_le most_keys (length keys) }
     {
         self.more == 0
     }

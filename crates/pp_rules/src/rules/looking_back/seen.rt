@@ -1,7 +1,7 @@
 // What the calls before the present one add up to.
 ghost use Rattle.std.specs.Prelude.{◌≡◌, ℕ, List, [], ◌∷◌, ◌++◌, IfOk, OnOk};
 ghost use Rattle.pp_rules.specs.declared.call.BuilderCall.{BuilderCall as Call};
-ghost use Rattle.pp_rules.specs.declared.rules.GraphRule.{GraphRule as Rule};
+ghost use Rattle.pp_rules.specs.declared.rules.looking_back.LookingBack.{LookingBack as Rule};
 ghost use Rattle.pp_rules.specs.steps.Clashes.{is_short_clash};
 ghost use Rattle.pp_rules.specs.Sets.{byte_call};
 ghost use Rattle.pp_rules.specs.steps.Seen.{SumsUp, TakesIn, fails_back, key_passes_limit as key_passes_limit_of};
@@ -10,10 +10,10 @@ ghost use Rattle.pp_rules.specs.Rules.Form.{is_lower, lower_after as lower_after
 
 use crate::call::{BuilderCall, NamedEdge, NamedKind};
 use crate::kept::ByteUse;
-use crate::rules::GraphRule;
 use crate::rules::clash::OwnEdges;
 use crate::rules::form::{has_upper_case, is_upper_case};
-use crate::rules::limits::Room;
+use crate::rules::limits::{MOST_KEY_BYTES, Room};
+use crate::rules::looking_back::LookingBack;
 use pp_bytes::Fold;
 use std::alloc::{AllocError, Global};
 
@@ -41,43 +41,35 @@ impl Seen {
     }
 
     /// Takes in what a rule asks of one more call. Answers whether the rule fails at it.
-    pub(crate) fn add(&mut self, rule: GraphRule, call: &BuilderCall) -> Result<bool, AllocError>
+    pub(crate) fn add(&mut self, rule: LookingBack, call: &BuilderCall) -> Result<bool, AllocError>
         ensures taken { OnOk result ((before : List Call) → TakesIn rule self.old before → TakesIn rule self.new (before ++ call.now ∷ [])) }
         ensures fails { IfOk result (λ fails. (before : List Call) → TakesIn rule self.old before → fails ≡ fails_back rule before call.now) }
     {
         let lower = self.lower;
         self.lower = lower_after(lower, call);
         match rule {
-            GraphRule::KeyClash => self.sum_up(call),
-            GraphRule::KeyNotFolded => Ok(lower && has_upper_case(call)),
-            GraphRule::TooMany => {
+            LookingBack::KeyClash => self.sum_up(call),
+            LookingBack::KeyNotFolded => Ok(lower && has_upper_case(call)),
+            LookingBack::TooMany => {
                 let passes = self.passes_limit(call);
                 self.sum_up(call)?;
                 Ok(passes)
-            }
-            _ => {
-                self.sum_up(call)?;
-                Ok(false)
             }
         }
     }
 
     /// Takes in what a rule asks of the edge of one more byte. Answers whether the rule fails at it.
-    pub(crate) fn add_byte(&mut self, rule: GraphRule, how: ByteUse, byte: u8) -> bool
+    pub(crate) fn add_byte(&mut self, rule: LookingBack, how: ByteUse, byte: u8) -> bool
         ensures taken { (before : List Call) (target : List ℕ) → TakesIn rule self.old before → TakesIn rule self.new (before ++ byte_call how target byte ∷ []) }
         ensures fails { (before : List Call) (target : List ℕ) → TakesIn rule self.old before → result ≡ fails_back rule before (byte_call how target byte) }
     {
         match rule {
-            GraphRule::KeyClash => self.sum_up_byte(how, byte),
-            GraphRule::KeyNotFolded => self.lower && is_upper_case(byte),
-            GraphRule::TooMany => {
+            LookingBack::KeyClash => self.sum_up_byte(how, byte),
+            LookingBack::KeyNotFolded => self.lower && is_upper_case(byte),
+            LookingBack::TooMany => {
                 let passes = self.byte_passes_limit(how);
                 self.sum_up_byte(how, byte);
                 passes
-            }
-            _ => {
-                self.sum_up_byte(how, byte);
-                false
             }
         }
     }
@@ -148,7 +140,7 @@ impl Seen {
     fn key_passes_limit(&self, len: usize) -> bool
         ensures { (before : List Call) → SumsUp self.now before → result ≡ key_passes_limit_of before len }
     {
-        64 < len || self.edges.keys.is_full() || self.room.weight <= len
+        MOST_KEY_BYTES < len || self.edges.keys.is_full() || self.room.weight <= len
     }
 }
 

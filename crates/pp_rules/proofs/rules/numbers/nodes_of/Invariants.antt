@@ -1,6 +1,6 @@
 use Rattle.std.proofs.Common.{◌≡◌, ℕ, List, take}
 use Rattle.std.specs.List.{list_any}
-use Rattle.pp_rules.specs.steps.NameTables.{is_at, value_at}
+use Rattle.pp_rules.specs.NameTables.{is_at, value_at}
 use Rattle.pp_rules.specs.steps.Lookups.{is_below}
 use Rattle.pp_rules.specs.Rules.Numbers.{adds_value_node, stores_narrow}
 use Rattle.pp_rules.proofs.rules.numbers.nodes_of.Given as goal

@@ -15,7 +15,3 @@ returns-in-TooMany-clause-taken c before target h =
 pub returns-in-TooMany-clause-fails : goal.returns-in-TooMany-clause-fails
 returns-in-TooMany-clause-fails c before target h =
     c.byte_passes_limit-passes.ensures before target c.args.byte (h.sums (λ same. cc)) ∙ ap (λ rule. fails_back rule before (byte_call c.args.how target c.args.byte)) (sym c.in-TooMany.is)
-
-pub returns-in_default-clause-taken : goal.returns-in_default-clause-taken
-returns-in_default-clause-taken c before target h =
-    takes-one c.args.rule c.args.self.now c.sum_up_byte-in_default.new.self before (byte_call c.args.how target c.args.byte) c.sum_up_byte-in_default.ensures.lower (c.sum_up_byte-in_default.ensures.sums before target) h
