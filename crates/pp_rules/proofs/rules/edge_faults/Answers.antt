@@ -7,8 +7,8 @@ use Rattle.pp_rules.proofs.ClashLemmas.{least-clash}
 use Rattle.pp_rules.proofs.LookingBackLemmas.{least-not_folded, least-too_many}
 use Rattle.pp_rules.proofs.rules.edge_faults.Goals as goal
 
-pub returns-in_ok-too_many : goal.returns-in_ok-too_many
-returns-in_ok-too_many c =
+pub returns : goal.returns
+returns c =
     let all = all_calls c.args.calls.now c.args.sets.now in
     record {
       clash = subst (IsLeast (FailsAt KeyClash all)) (sym c.lesser.ensures) (least-clash all c.in_ok-clash.clash c.in_ok-keys.keys.again c.in_ok-clash.ensures c.in_ok-keys.ensures.again);
