@@ -2,7 +2,7 @@
 use Rattle.std.proofs.Common.{◌≡◌, ◌<◌, suc, zero, List, [], ◌∷◌, ◌++◌, Bool, length, ap, subst, arith}
 use Rattle.std.proofs.lemmas.List.{length_push}
 use Rattle.std.proofs.lemmas.List.Sums.{fold_push}
-use Rattle.pp_graph.specs.declared.call.BuilderCall.{BuilderCall}
+use Rattle.pp_rules.specs.declared.call.BuilderCall.{BuilderCall}
 use Rattle.pp_graph.specs.declared.builder.LastNode.{LastNode}
 use Rattle.pp_graph.specs.declared.builder.LastNode.TheVariants as last
 use Rattle.pp_graph.specs.Calls.{HasForm, HaveForm, IsRecord, last_after, otherwise_after}

@@ -8,17 +8,8 @@ use Rattle.std.proofs.lemmas.List.Sums.{sum_by-cons}
 use Rattle.std.proofs.lemmas.Slice.Eq.{bytes_eq-Decides}
 use Rattle.pp_graph.specs.Plan.{AreDistinct}
 use Rattle.pp_graph.specs.Built.{place_of}
-use Rattle.pp_graph.proofs.TableLemmas.{Each, bytes_eq-comm}
-
--- what a failed `||` says of its sides
-pub or_false_left : (a b : Bool) → (a || b) ≡ false → a ≡ false
-or_false_left true b h = h
-or_false_left false b h = refl
-
-pub or_false_right : (a b : Bool) → (a || b) ≡ false → b ≡ false
-or_false_right true true h = h
-or_false_right true false h = refl
-or_false_right false b h = h
+use Rattle.pp_graph.proofs.TableLemmas.{Each}
+use Rattle.pp_rules.proofs.ListLemmas.{bytes_eq-comm, or_false_left, or_false_right, or_false, passes_some}
 
 -- what a failed `&&` says of its right side
 pub and_false_right : (a b : Bool) → a ≡ true → (a && b) ≡ false → b ≡ false
@@ -29,10 +20,6 @@ and_false_right false b e h = absurd (false≢true e)
 pub true_from_not : (b : Bool) → not b ≡ false → b ≡ true
 true_from_not true h = refl
 true_from_not false h = sym h
-
-pub or_false : (b : Bool) → (b || false) ≡ b
-or_false true = refl
-or_false false = refl
 
 pub and_false : (b : Bool) → (b && false) ≡ false
 and_false true = refl
@@ -97,11 +84,6 @@ module _ {X : Type 0} where
     each-both (R x) (λ y. Each (S y) xs) (λ y. Each (S y) (x ∷ xs)) xs (λ y r e. ((f x y r).1, e)) s.0 (pairs-all R S xs f d s.1),
   )
 
-  -- a test of a value that is there
-  abbrev pub passes_some : (X → Bool) → Option X → Bool
-  passes_some test none = false
-  passes_some test (Some x) = test x
-
   -- the first element of a name stands at its place among the names
   find-step : (x : X) (xs : List X) (b : Bool) (m : ℕ) (r : Option X) → r ≡ slice_get xs m → cond b (Some x) r ≡ slice_get (x ∷ xs) (cond (not b) (1 + m) 0)
   find-step x xs true m r h = refl
@@ -140,10 +122,6 @@ module _ {X : Type 0} where
 pub distinct-from_pairs : {X : Type 0} (xs : List X) → Pairs ◌≢◌ xs → AreDistinct xs
 distinct-from_pairs xs s = λ i j d p q. pairs-read ◌≢◌ xs s i j d p q
 
-any-cons : {Y : Type 0} (test : Y → Bool) (o : Option Y) (ys : List Y) → list_any test (cons_option o ys) ≡ (passes_some test o || list_any test ys)
-any-cons test none ys = refl
-any-cons test (Some y) ys = refl
-
 length-cons_option : {Y : Type 0} (o : Option Y) (ys : List Y) → length (cons_option o ys) ≡ cond (is_some o) 1 0 + length ys
 length-cons_option none ys = omega arith
 length-cons_option (Some y) ys = omega arith
@@ -165,11 +143,6 @@ module _ {X Y : Type 0} where
   pub each-from_map : (f : X → Y) (P : Y → Type 0) (xs : List X) → Each P (map f xs) → Each (λ x. P (f x)) xs
   each-from_map f P [] s = tt
   each-from_map f P (x ∷ xs) s = (s.0, each-from_map f P xs s.1)
-
-  pub any-filter_map : (f : X → Option Y) (test : Y → Bool) (p : X → Bool) (xs : List X) → ((x : X) → p x ≡ passes_some test (f x)) → list_any p xs ≡ list_any test (filter_map f xs)
-  any-filter_map f test p [] e = refl
-  any-filter_map f test p (x ∷ xs) e =
-      ap₂ ◌||◌ (e x) (any-filter_map f test p xs e) ∙ sym (any-cons test (f x) (filter_map f xs))
 
   pub count-filter_map : (f : X → Option Y) (p : X → Bool) (xs : List X) → ((x : X) → p x ≡ is_some (f x)) → count_by p xs ≡ length (filter_map f xs)
   count-filter_map f p [] e = refl

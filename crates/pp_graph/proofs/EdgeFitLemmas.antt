@@ -7,19 +7,24 @@ use Rattle.pp_bytes.specs.declared.fold.Fold.{Fold}
 use Rattle.pp_bytes.specs.declared.fold.Fold.TheVariants.{Lower}
 use Rattle.pp_graph.specs.declared.node.Answer.{Answer}
 use Rattle.pp_graph.specs.declared.node.Other.{Other}
-use Rattle.pp_graph.specs.declared.call.NamedKind.TheVariants as kind
-use Rattle.pp_graph.specs.declared.call.NamedEdge.{NamedEdge}
-use Rattle.pp_graph.specs.declared.call.NamedEdge.TheVariants as edge
-use Rattle.pp_graph.specs.declared.call.BuilderCall.{BuilderCall}
-use Rattle.pp_graph.specs.declared.call.BuilderCall.TheVariants as call
-use Rattle.pp_graph.specs.declared.call.Sort.TheVariants as sort
-use Rattle.pp_graph.specs.Keys.{is_upper_case}
+use Rattle.pp_rules.specs.declared.call.NamedKind.TheVariants as kind
+use Rattle.pp_rules.specs.declared.call.NamedEdge.{NamedEdge}
+use Rattle.pp_rules.specs.declared.call.NamedEdge.TheVariants as edge
+use Rattle.pp_rules.specs.declared.call.BuilderCall.{BuilderCall}
+use Rattle.pp_rules.specs.declared.call.BuilderCall.TheVariants as call
+use Rattle.pp_rules.specs.declared.call.Sort.TheVariants as sort
+use Rattle.pp_rules.specs.Keys.{is_upper_case}
 use Rattle.pp_graph.specs.Plan.{Leads, IsKey, IsPeek, AreEdges, AreAnswers}
-use Rattle.pp_graph.specs.Calls.{is_declared, names_of}
-use Rattle.pp_graph.specs.Built.{Tables, tables_of, built, place_of, key_edge, peek_edge, answer_edge, other_edge, first_of, other_in}
-use Rattle.pp_graph.specs.Rules.{lower_kind, is_empty_key, is_otherwise, is_value_fault, is_too_wide, is_value_node, names_unknown}
+use Rattle.pp_rules.specs.Calls.{is_declared, names_of}
+use Rattle.pp_rules.specs.Declarations.{Tables, tables_of}
+use Rattle.pp_graph.specs.Built.{built, place_of, key_edge, peek_edge, answer_edge, other_edge, first_of, other_in}
+use Rattle.pp_rules.specs.Rules.Form.{lower_kind, is_empty_key}
+use Rattle.pp_rules.specs.Rules.Otherwise.{is_otherwise}
+use Rattle.pp_rules.specs.Rules.Numbers.{is_value_fault, is_too_wide, is_value_node}
+use Rattle.pp_rules.specs.Rules.Names.{names_unknown}
 use Rattle.pp_graph.proofs.TableLemmas.{Each, each-at}
-use Rattle.pp_graph.proofs.EachLemmas.{passes_some, each-filter_map, any-filter_map, or_false_left, and_false_right, true_from_not}
+use Rattle.pp_rules.proofs.ListLemmas.{passes_some, any-filter_map, or_false_left}
+use Rattle.pp_graph.proofs.EachLemmas.{each-filter_map, and_false_right, true_from_not}
 use Rattle.pp_graph.proofs.SoundLemmas.{AreSound}
 use Rattle.pp_graph.proofs.ValueLemmas.{leads-none, leads-some}
 use Rattle.pp_graph.proofs.EdgeSoundLemmas.{IsOwn, AreOwn, own-each, keys-distinct, keys-gapless, keys-few, peeks-distinct, keys-apart, answers-distinct}

@@ -11,18 +11,26 @@ use Rattle.std.proofs.lemmas.Slice.Eq.{bytes_eq-Decides}
 use Rattle.pp_graph.specs.declared.node.Key.{Key}
 use Rattle.pp_graph.specs.declared.node.Peek.{Peek}
 use Rattle.pp_graph.specs.declared.node.Answer.{Answer}
-use Rattle.pp_graph.specs.declared.call.NamedKind.{NamedKind}
-use Rattle.pp_graph.specs.declared.call.NamedEdge.{NamedEdge}
-use Rattle.pp_graph.specs.declared.call.NamedEdge.TheVariants as edge
-use Rattle.pp_graph.specs.declared.call.BuilderCall.{BuilderCall}
-use Rattle.pp_graph.specs.declared.call.BuilderCall.TheVariants as call
-use Rattle.pp_graph.specs.Keys.{has_gap}
+use Rattle.pp_rules.specs.declared.call.NamedKind.{NamedKind}
+use Rattle.pp_rules.specs.declared.call.NamedEdge.{NamedEdge}
+use Rattle.pp_rules.specs.declared.call.NamedEdge.TheVariants as edge
+use Rattle.pp_rules.specs.declared.call.BuilderCall.{BuilderCall}
+use Rattle.pp_rules.specs.declared.call.BuilderCall.TheVariants as call
+use Rattle.pp_rules.specs.Keys.{has_gap}
 use Rattle.pp_graph.specs.Plan.{AreDistinct, key_bytes}
-use Rattle.pp_graph.specs.Calls.{own_calls, since_node, since_after}
-use Rattle.pp_graph.specs.Built.{Tables, key_edge, peek_edge, answer_edge}
-use Rattle.pp_graph.specs.Rules.{edge_of, edges_clash, clashes_with_any, begins_with_byte, key_of_edge, keys_of, gaps_with_any, has_upper_case, is_lower, lower_kind, lower_after, is_empty_key, is_value_fault, is_too_wide, names_unknown, passes_limit}
+use Rattle.pp_rules.specs.Calls.{own_calls, since_node, since_after}
+use Rattle.pp_rules.specs.Declarations.{Tables}
+use Rattle.pp_graph.specs.Built.{key_edge, peek_edge, answer_edge}
+use Rattle.pp_rules.specs.Edges.{edge_of, key_of_edge, keys_of}
+use Rattle.pp_rules.specs.Rules.Clash.{edges_clash, clashes_with_any, begins_with_byte}
+use Rattle.pp_rules.specs.Rules.SortedKeys.{gaps_with_any}
+use Rattle.pp_rules.specs.Rules.Form.{has_upper_case, is_lower, lower_kind, lower_after, is_empty_key}
+use Rattle.pp_rules.specs.Rules.Numbers.{is_value_fault, is_too_wide}
+use Rattle.pp_rules.specs.Rules.Names.{names_unknown}
+use Rattle.pp_rules.specs.Rules.Limits.{passes_limit}
 use Rattle.pp_graph.proofs.TableLemmas.{Each, each-at}
-use Rattle.pp_graph.proofs.EachLemmas.{Pairs, pairs-push, pairs-all, pairs-filter_map, each-fails, each-filter_map, each-from_map, map-filter_map, filter_map-twice, distinct-from_pairs, or_false_left, or_false_right}
+use Rattle.pp_graph.proofs.EachLemmas.{Pairs, pairs-push, pairs-all, pairs-filter_map, each-fails, each-filter_map, each-from_map, map-filter_map, filter_map-twice, distinct-from_pairs}
+use Rattle.pp_rules.proofs.ListLemmas.{or_false_left, or_false_right}
 use Rattle.pp_graph.proofs.SoundLemmas.{IsSound, AreSound, below_from, within_from}
 
 -- the key of a call, if it adds one

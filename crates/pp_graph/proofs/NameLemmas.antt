@@ -7,13 +7,13 @@ use Rattle.std.proofs.lemmas.Bool.Decides.{nat_tests}
 use Rattle.std.proofs.lemmas.List.Folds.{list_any-append}
 use Rattle.std.proofs.lemmas.List.Sums.{prefix_len-le-length}
 use Rattle.std.proofs.lemmas.Slice.Eq.{bytes_eq-Decides}
-use Rattle.pp_graph.specs.declared.call.BuilderCall.{BuilderCall}
-use Rattle.pp_graph.specs.declared.call.BuilderCall.TheVariants as call
-use Rattle.pp_graph.specs.declared.call.Sort.TheVariants as sort
-use Rattle.pp_graph.specs.Calls.{is_declared, is_declared_by, declared_by}
-use Rattle.pp_graph.specs.NameLists.{NameLists, no_names, is_among, with_name, with_call, names_in}
-use Rattle.pp_graph.proofs.TableLemmas.{bytes_eq-comm}
-use Rattle.pp_graph.proofs.EachLemmas.{or_false}
+use Rattle.pp_rules.specs.declared.call.BuilderCall.{BuilderCall}
+use Rattle.pp_rules.specs.declared.call.BuilderCall.TheVariants as call
+use Rattle.pp_rules.specs.declared.call.Sort.TheVariants as sort
+use Rattle.pp_rules.specs.Calls.{is_declared, is_declared_by, declared_by}
+use Rattle.pp_graph.specs.steps.NameLists.{NameLists, no_names, is_among, with_name, with_call, names_in}
+use Rattle.pp_rules.proofs.ListLemmas.{bytes_eq-comm}
+use Rattle.pp_rules.proofs.ListLemmas.{or_false}
 
 -- a place that is not found is the length
 absent-step : (b : Bool) (n m : ℕ) → nat_lt n m ≡ b → n ≤ m → cond b (Some n) none ≡ none → n ≡ m

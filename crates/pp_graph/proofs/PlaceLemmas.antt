@@ -6,16 +6,17 @@ use Rattle.std.proofs.lemmas.Bool.{false≢true}
 use Rattle.std.proofs.lemmas.List.{append-nil}
 use Rattle.std.proofs.lemmas.List.Elements.{filter_map-append}
 use Rattle.std.proofs.lemmas.List.Sums.{fold_push}
-use Rattle.pp_graph.specs.declared.call.BuilderCall.{BuilderCall}
-use Rattle.pp_graph.specs.declared.call.BuilderCall.TheVariants as call
-use Rattle.pp_graph.specs.declared.call.Sort.{Sort}
-use Rattle.pp_graph.specs.declared.call.Sort.TheVariants as sort
-use Rattle.pp_graph.specs.declared.fault.GraphRule.TheVariants.{DuplicateName}
-use Rattle.pp_graph.specs.Calls.{declared_by, names_of, name_if}
-use Rattle.pp_graph.specs.NameLists.{NameLists, no_names, is_among, with_name, with_call, names_in}
-use Rattle.pp_graph.specs.Lookups.{DeclaresOnce}
-use Rattle.pp_graph.specs.Rules.{Keeps, is_duplicate}
-use Rattle.pp_graph.proofs.RuleLemmas.{kept-at}
+use Rattle.pp_rules.specs.declared.call.BuilderCall.{BuilderCall}
+use Rattle.pp_rules.specs.declared.call.BuilderCall.TheVariants as call
+use Rattle.pp_rules.specs.declared.call.Sort.{Sort}
+use Rattle.pp_rules.specs.declared.call.Sort.TheVariants as sort
+use Rattle.pp_rules.specs.declared.rules.GraphRule.TheVariants.{DuplicateName}
+use Rattle.pp_rules.specs.Calls.{declared_by, names_of, name_if}
+use Rattle.pp_graph.specs.steps.NameLists.{NameLists, no_names, is_among, with_name, with_call, names_in}
+use Rattle.pp_graph.specs.steps.Places.{DeclaresOnce}
+use Rattle.pp_rules.specs.Rules.{Keeps}
+use Rattle.pp_rules.specs.Rules.Names.{is_duplicate}
+use Rattle.pp_rules.proofs.RuleLemmas.{kept-at}
 use Rattle.pp_graph.proofs.NameLemmas.{props-declared, hosts-declared, spans-declared, nodes-declared}
 
 -- a new name goes behind the others

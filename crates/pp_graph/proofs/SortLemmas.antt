@@ -8,17 +8,19 @@ use Rattle.std.proofs.lemmas.List.{append-nil, length-map}
 use Rattle.std.proofs.lemmas.List.Elements.{filter_map-append}
 use Rattle.std.proofs.lemmas.List.Sums.{sum_by_push}
 use Rattle.std.proofs.lemmas.Slice.Eq.{bytes_eq-Decides}
-use Rattle.pp_graph.specs.declared.graph.PropDecl.{PropDecl}
-use Rattle.pp_graph.specs.declared.graph.HostDecl.{HostDecl}
-use Rattle.pp_graph.specs.declared.graph.SpanDecl.{SpanDecl}
+use Rattle.pp_rules.specs.declared.declaration.PropDecl.{PropDecl}
+use Rattle.pp_rules.specs.declared.declaration.HostDecl.{HostDecl}
+use Rattle.pp_rules.specs.declared.declaration.SpanDecl.{SpanDecl}
 use Rattle.pp_graph.specs.declared.node.Node.{Node}
-use Rattle.pp_graph.specs.declared.call.BuilderCall.{BuilderCall}
-use Rattle.pp_graph.specs.declared.call.BuilderCall.TheVariants as call
-use Rattle.pp_graph.specs.declared.call.Sort.{Sort}
-use Rattle.pp_graph.specs.declared.call.Sort.TheVariants as sort
-use Rattle.pp_graph.specs.Calls.{declared_by, is_declared, is_declared_by, names_of, name_if, same_sort}
-use Rattle.pp_graph.specs.Built.{Tables, place_of, prop_decl, host_decl, span_decl, nodes_in}
-use Rattle.pp_graph.specs.Rules.{is_redeclared, is_sort, count_of, passes_limit}
+use Rattle.pp_rules.specs.declared.call.BuilderCall.{BuilderCall}
+use Rattle.pp_rules.specs.declared.call.BuilderCall.TheVariants as call
+use Rattle.pp_rules.specs.declared.call.Sort.{Sort}
+use Rattle.pp_rules.specs.declared.call.Sort.TheVariants as sort
+use Rattle.pp_rules.specs.Calls.{declared_by, is_declared, is_declared_by, names_of, name_if, same_sort}
+use Rattle.pp_rules.specs.Declarations.{Tables, prop_decl, host_decl, span_decl}
+use Rattle.pp_graph.specs.Built.{place_of, nodes_in}
+use Rattle.pp_rules.specs.Rules.Names.{is_redeclared}
+use Rattle.pp_rules.specs.Rules.Limits.{is_sort, count_of, passes_limit}
 use Rattle.pp_graph.proofs.TableLemmas.{has_name, place_of-below}
 use Rattle.pp_graph.proofs.EachLemmas.{Pairs, pairs-push, each-fails, each-map, map-filter_map, count-filter_map}
 use Rattle.pp_graph.proofs.SoundLemmas.{IsSound, AreSound, along, below_from}

@@ -2,11 +2,19 @@
 use Rattle.std.proofs.Common.{◌≡◌, ℕ, ◌<◌, ◌≤◌, List, [], ◌∷◌, ◌++◌, false, nat_le, nat_lt, length, sym, ◌∙◌, subst, arith, append_assoc}
 use Rattle.std.proofs.lemmas.Bool.Decides.{nat_tests}
 use Rattle.std.proofs.lemmas.List.{append-nil}
-use Rattle.pp_graph.specs.declared.call.BuilderCall.{BuilderCall}
-use Rattle.pp_graph.specs.declared.fault.GraphRule.TheVariants.{DuplicateName, UnknownName, NoOtherwise, KeyClash, PrefixGap, ValueTarget, ValueTooWide, EmptyKey, KeyNotFolded, TooMany}
+use Rattle.pp_rules.specs.declared.call.BuilderCall.{BuilderCall}
+use Rattle.pp_rules.specs.declared.rules.GraphRule.TheVariants.{DuplicateName, UnknownName, NoOtherwise, KeyClash, PrefixGap, ValueTarget, ValueTooWide, EmptyKey, KeyNotFolded, TooMany}
 use Rattle.pp_graph.specs.Calls.{HasForm, HaveForm}
-use Rattle.pp_graph.specs.Rules.{KeepsRules, is_duplicate, names_unknown, lacks_otherwise, is_clash, is_gap, is_value_fault, is_too_wide, is_empty_key, is_not_folded, edge_of, passes_limit}
-use Rattle.pp_graph.proofs.RuleLemmas.{kept-at, slice_get-split}
+use Rattle.pp_rules.specs.Rules.{KeepsRules}
+use Rattle.pp_rules.specs.Rules.Names.{is_duplicate, names_unknown}
+use Rattle.pp_rules.specs.Rules.Otherwise.{lacks_otherwise}
+use Rattle.pp_rules.specs.Rules.Clash.{is_clash}
+use Rattle.pp_rules.specs.Rules.SortedKeys.{is_gap}
+use Rattle.pp_rules.specs.Rules.Numbers.{is_value_fault, is_too_wide}
+use Rattle.pp_rules.specs.Rules.Form.{is_empty_key, is_not_folded}
+use Rattle.pp_rules.specs.Edges.{edge_of}
+use Rattle.pp_rules.specs.Rules.Limits.{passes_limit}
+use Rattle.pp_rules.proofs.RuleLemmas.{kept-at, slice_get-split}
 use Rattle.pp_graph.proofs.TableLemmas.{Each}
 
 -- what the rules and the form say at a call, with all the calls, those before it and those behind it

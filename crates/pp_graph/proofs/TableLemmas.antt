@@ -3,9 +3,8 @@ use Rattle.std.proofs.Common.{◌≡◌, ℕ, ◌+◌, ◌<◌, suc, zero, List,
 use Rattle.std.specs.Prelude.{bytes_eq}
 use Rattle.std.specs.List.{list_any}
 use Rattle.std.proofs.lemmas.Bool.{false≢true}
-use Rattle.std.proofs.lemmas.Bool.Decides.{same_from_decides, Decides-like}
-use Rattle.std.proofs.lemmas.Slice.Eq.{bytes_eq-Decides}
 use Rattle.pp_graph.specs.Built.{place_of}
+use Rattle.pp_rules.proofs.ListLemmas.{bytes_eq-comm}
 
 -- it holds of each element
 abbrev pub Each : {X : Type 0} → (X → Type 0) → List X → Type 0
@@ -21,11 +20,6 @@ each-at P (y ∷ ys) s (suc i) x e = each-at P ys s.1 i x e
 -- whether one of these names is equal to the name
 abbrev pub has_name : List (List ℕ) → List ℕ → Bool
 has_name names name = list_any (λ (other : List ℕ). bytes_eq other name) names
-
--- equality of bytes goes both ways
-pub bytes_eq-comm : (a b : List ℕ) → bytes_eq a b ≡ bytes_eq b a
-bytes_eq-comm a b =
-    same_from_decides (bytes_eq a b) (bytes_eq b a) (bytes_eq-Decides a b) (Decides-like (bytes_eq b a) sym sym (bytes_eq-Decides b a))
 
 place-step : (b : Bool) (n m : ℕ) → (b ≡ false → n < m) → cond (not b) (1 + n) 0 < suc m
 place-step true n m f = omega arith

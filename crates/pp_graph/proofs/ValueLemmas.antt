@@ -3,28 +3,30 @@ use Rattle.std.proofs.Common.{◌≡◌, ◌≢◌, ℕ, ◌-◌, ◌^◌, ◌<�
 use Rattle.std.specs.Prelude.{bytes_eq}
 use Rattle.std.specs.Prelude.{None as none}
 use Rattle.std.specs.List.{list_any}
-use Rattle.pp_graph.specs.declared.graph.PropDecl.{PropDecl}
-use Rattle.pp_graph.specs.declared.graph.HostDecl.{HostDecl}
+use Rattle.pp_rules.specs.declared.declaration.PropDecl.{PropDecl}
+use Rattle.pp_rules.specs.declared.declaration.HostDecl.{HostDecl}
 use Rattle.pp_graph.specs.declared.node.Code.TheVariants as placed_code
 use Rattle.pp_graph.specs.declared.node.Kind.{Kind}
 use Rattle.pp_graph.specs.declared.node.Kind.TheVariants as placed
 use Rattle.pp_graph.specs.declared.node.Node.{Node}
-use Rattle.pp_graph.specs.declared.call.Constant.{Constant}
-use Rattle.pp_graph.specs.declared.call.Constant.TheVariants as constant
-use Rattle.pp_graph.specs.declared.call.NamedCode.{NamedCode}
-use Rattle.pp_graph.specs.declared.call.NamedCode.TheVariants as code
-use Rattle.pp_graph.specs.declared.call.NamedKind.{NamedKind}
-use Rattle.pp_graph.specs.declared.call.NamedKind.TheVariants as kind
-use Rattle.pp_graph.specs.declared.call.BuilderCall.{BuilderCall}
-use Rattle.pp_graph.specs.declared.call.BuilderCall.TheVariants as call
-use Rattle.pp_graph.specs.declared.call.Sort.TheVariants as sort
-use Rattle.pp_graph.specs.Widths.{greatest}
+use Rattle.pp_rules.specs.declared.call.Constant.{Constant}
+use Rattle.pp_rules.specs.declared.call.Constant.TheVariants as constant
+use Rattle.pp_rules.specs.declared.call.NamedCode.{NamedCode}
+use Rattle.pp_rules.specs.declared.call.NamedCode.TheVariants as code
+use Rattle.pp_rules.specs.declared.call.NamedKind.{NamedKind}
+use Rattle.pp_rules.specs.declared.call.NamedKind.TheVariants as kind
+use Rattle.pp_rules.specs.declared.call.BuilderCall.{BuilderCall}
+use Rattle.pp_rules.specs.declared.call.BuilderCall.TheVariants as call
+use Rattle.pp_rules.specs.declared.call.Sort.TheVariants as sort
+use Rattle.pp_rules.specs.Widths.{greatest}
 use Rattle.pp_graph.specs.Plan.{Plan, Leads, Holds, StoresIn, CodeFits, host_value, is_value_code, is_value_kind}
-use Rattle.pp_graph.specs.Calls.{own_calls, is_declared, named_by_code, names_of}
-use Rattle.pp_graph.specs.Built.{tables_of, built, place_of, greatest_of, host_decl, prop_decl, constant_code, code_of, kind_of, nodes_in}
-use Rattle.pp_graph.specs.Rules.{declares_value_host, is_value_host, code_takes_value, kind_takes_value, adds_value_node, is_value_node, stores_narrow, is_wide_code, is_wide_most}
+use Rattle.pp_rules.specs.Calls.{own_calls, is_declared, named_by_code, names_of}
+use Rattle.pp_rules.specs.Declarations.{tables_of, greatest_of, host_decl, prop_decl}
+use Rattle.pp_graph.specs.Built.{built, place_of, constant_code, code_of, kind_of, nodes_in}
+use Rattle.pp_rules.specs.Rules.Numbers.{declares_value_host, is_value_host, code_takes_value, kind_takes_value, adds_value_node, is_value_node, stores_narrow, is_wide_code, is_wide_most}
 use Rattle.pp_graph.proofs.TableLemmas.{Each, each-at}
-use Rattle.pp_graph.proofs.EachLemmas.{Pairs, passes_some, any-place, any-filter_map, find-place, and_false, or_false_left, true_from_not}
+use Rattle.pp_graph.proofs.EachLemmas.{Pairs, any-place, find-place, and_false, true_from_not}
+use Rattle.pp_rules.proofs.ListLemmas.{passes_some, any-filter_map, or_false_left}
 use Rattle.pp_graph.proofs.SoundLemmas.{IsSound, AreSound, within_from}
 use Rattle.pp_graph.proofs.SortLemmas.{props-names, hosts-names, nodes-names, names-apart, there-at, declared-within}
 

@@ -5,18 +5,20 @@ use Rattle.std.specs.List.{cons_option}
 use Rattle.std.proofs.lemmas.List.Sums.{sum_by-cons, sum_by_push}
 use Rattle.pp_graph.specs.declared.node.Key.{Key}
 use Rattle.pp_graph.specs.declared.node.Node.{Node}
-use Rattle.pp_graph.specs.declared.call.NamedKind.{NamedKind}
-use Rattle.pp_graph.specs.declared.call.NamedKind.TheVariants as kind
-use Rattle.pp_graph.specs.declared.call.NamedEdge.{NamedEdge}
-use Rattle.pp_graph.specs.declared.call.NamedEdge.TheVariants as edge
-use Rattle.pp_graph.specs.declared.call.BuilderCall.{BuilderCall}
-use Rattle.pp_graph.specs.declared.call.BuilderCall.TheVariants as call
+use Rattle.pp_rules.specs.declared.call.NamedKind.{NamedKind}
+use Rattle.pp_rules.specs.declared.call.NamedKind.TheVariants as kind
+use Rattle.pp_rules.specs.declared.call.NamedEdge.{NamedEdge}
+use Rattle.pp_rules.specs.declared.call.NamedEdge.TheVariants as edge
+use Rattle.pp_rules.specs.declared.call.BuilderCall.{BuilderCall}
+use Rattle.pp_rules.specs.declared.call.BuilderCall.TheVariants as call
 use Rattle.pp_graph.specs.Plan.{weight_of}
-use Rattle.pp_graph.specs.Calls.{own_calls}
-use Rattle.pp_graph.specs.Built.{Tables, key_edge, peek_edge, answer_edge, kind_of, nodes_in}
-use Rattle.pp_graph.specs.Rules.{weight_of_edge, weight_of_call, keys_of, passes_limit}
-use Rattle.pp_graph.specs.Calls.{since_node}
-use Rattle.pp_graph.proofs.EachLemmas.{or_false_right}
+use Rattle.pp_rules.specs.Calls.{own_calls}
+use Rattle.pp_rules.specs.Declarations.{Tables}
+use Rattle.pp_graph.specs.Built.{key_edge, peek_edge, answer_edge, kind_of, nodes_in}
+use Rattle.pp_rules.specs.Rules.Limits.{weight_of_edge, weight_of_call, passes_limit}
+use Rattle.pp_rules.specs.Edges.{keys_of}
+use Rattle.pp_rules.specs.Calls.{since_node}
+use Rattle.pp_rules.proofs.ListLemmas.{or_false_right}
 use Rattle.pp_graph.proofs.SoundLemmas.{IsSound, AreSound, along, below_from, within_from}
 
 -- the weight of a value that is there

@@ -3,24 +3,30 @@ use Rattle.std.proofs.Common.{◌≡◌, ℕ, ◌<◌, ◌≤◌, List, [], ◌�
 use Rattle.std.specs.Prelude.{None as none}
 use Rattle.std.specs.List.{list_any}
 use Rattle.std.proofs.lemmas.List.{length-map}
-use Rattle.pp_graph.specs.declared.graph.PropDecl.{PropDecl}
-use Rattle.pp_graph.specs.declared.graph.HostDecl.{HostDecl}
-use Rattle.pp_graph.specs.declared.graph.SpanDecl.{SpanDecl}
+use Rattle.pp_rules.specs.declared.declaration.PropDecl.{PropDecl}
+use Rattle.pp_rules.specs.declared.declaration.HostDecl.{HostDecl}
+use Rattle.pp_rules.specs.declared.declaration.SpanDecl.{SpanDecl}
 use Rattle.pp_graph.specs.declared.node.Node.{Node}
-use Rattle.pp_graph.specs.declared.call.NamedKind.{NamedKind}
-use Rattle.pp_graph.specs.declared.call.NamedKind.TheVariants as kind
-use Rattle.pp_graph.specs.declared.call.BuilderCall.{BuilderCall}
-use Rattle.pp_graph.specs.declared.call.BuilderCall.TheVariants as call
-use Rattle.pp_graph.specs.declared.call.Sort.TheVariants as sort
-use Rattle.pp_graph.specs.declared.fault.GraphRule.TheVariants.{NoEntry}
-use Rattle.pp_graph.specs.Names.{IsName}
+use Rattle.pp_rules.specs.declared.call.NamedKind.{NamedKind}
+use Rattle.pp_rules.specs.declared.call.NamedKind.TheVariants as kind
+use Rattle.pp_rules.specs.declared.call.BuilderCall.{BuilderCall}
+use Rattle.pp_rules.specs.declared.call.BuilderCall.TheVariants as call
+use Rattle.pp_rules.specs.declared.call.Sort.TheVariants as sort
+use Rattle.pp_rules.specs.declared.rules.GraphRule.TheVariants.{NoEntry}
+use Rattle.pp_rules.specs.Names.{IsName}
 use Rattle.pp_graph.specs.Plan.{IsWellFormed, AreDistinct, FitsIn, FinishFits, Leads, host_value}
-use Rattle.pp_graph.specs.Calls.{HaveForm, own_calls, names_of, is_declared, named_by_code, declared_by, is_declared_by}
-use Rattle.pp_graph.specs.Built.{Tables, tables_of, built, place_of, prop_decl, host_decl, span_decl, kind_of, nodes_in, entry_node, entry_in, finish_places, first_of, other_in}
-use Rattle.pp_graph.specs.Rules.{KeepsRules, has_entry, lower_kind, is_otherwise}
-use Rattle.pp_graph.proofs.RuleLemmas.{kept-at_end}
+use Rattle.pp_graph.specs.Calls.{HaveForm}
+use Rattle.pp_rules.specs.Calls.{own_calls, names_of, is_declared, named_by_code, declared_by, is_declared_by}
+use Rattle.pp_rules.specs.Declarations.{Tables, tables_of, prop_decl, host_decl, span_decl}
+use Rattle.pp_graph.specs.Built.{built, place_of, kind_of, nodes_in, entry_node, entry_in, finish_places, first_of, other_in}
+use Rattle.pp_rules.specs.Rules.{KeepsRules}
+use Rattle.pp_rules.specs.Rules.Names.{has_entry}
+use Rattle.pp_rules.specs.Rules.Form.{lower_kind}
+use Rattle.pp_rules.specs.Rules.Otherwise.{is_otherwise}
+use Rattle.pp_rules.proofs.RuleLemmas.{kept-at_end}
 use Rattle.pp_graph.proofs.TableLemmas.{Each, each-at}
-use Rattle.pp_graph.proofs.EachLemmas.{passes_some, each-filter_map, any-filter_map, distinct-from_pairs, or_false_left, or_false_right, true_from_not}
+use Rattle.pp_rules.proofs.ListLemmas.{passes_some, any-filter_map, or_false_left, or_false_right}
+use Rattle.pp_graph.proofs.EachLemmas.{each-filter_map, distinct-from_pairs, true_from_not}
 use Rattle.pp_graph.proofs.SoundLemmas.{IsSound, AreSound, AreSound-from_rules, each-sound}
 use Rattle.pp_graph.proofs.SortLemmas.{names-apart, few-props, few-hosts, few-spans, few-nodes, props-names, hosts-names, spans-names, nodes-names, there-at, declared-within}
 use Rattle.pp_graph.proofs.ValueLemmas.{prop-within, leads-none, code-fits, value_host-place}

@@ -1,10 +1,10 @@
 -- The graph that a list of calls gives.
-use Rattle.std.specs.Prelude.{ℕ, ◌-◌, ◌^◌, List, [], ◌∷◌, Option, Some, false, bytes_eq, filter_map, find, unwrap_or, option_map}
+use Rattle.std.specs.Prelude.{ℕ, List, [], ◌∷◌, Option, Some, false, bytes_eq, filter_map, unwrap_or}
 use Rattle.std.specs.Prelude.{None as none}
 use Rattle.std.specs.List.{position_or_len}
-use Rattle.pp_graph.specs.declared.graph.PropDecl.{PropDecl}
-use Rattle.pp_graph.specs.declared.graph.HostDecl.{HostDecl}
-use Rattle.pp_graph.specs.declared.graph.SpanDecl.{SpanDecl}
+use Rattle.pp_rules.specs.declared.declaration.PropDecl.{PropDecl}
+use Rattle.pp_rules.specs.declared.declaration.HostDecl.{HostDecl}
+use Rattle.pp_rules.specs.declared.declaration.SpanDecl.{SpanDecl}
 use Rattle.pp_graph.specs.declared.node.Code.{Code}
 use Rattle.pp_graph.specs.declared.node.Code.TheVariants as placed_code
 use Rattle.pp_graph.specs.declared.node.Key.{Key}
@@ -14,71 +14,22 @@ use Rattle.pp_graph.specs.declared.node.Kind.{Kind}
 use Rattle.pp_graph.specs.declared.node.Kind.TheVariants as placed
 use Rattle.pp_graph.specs.declared.node.Node.{Node}
 use Rattle.pp_graph.specs.declared.node.Other.{Other}
-use Rattle.pp_graph.specs.declared.call.Constant.{Constant}
-use Rattle.pp_graph.specs.declared.call.Constant.TheVariants as constant
-use Rattle.pp_graph.specs.declared.call.NamedCode.{NamedCode}
-use Rattle.pp_graph.specs.declared.call.NamedCode.TheVariants as code
-use Rattle.pp_graph.specs.declared.call.NamedKind.{NamedKind}
-use Rattle.pp_graph.specs.declared.call.NamedKind.TheVariants as kind
-use Rattle.pp_graph.specs.declared.call.NamedEdge.TheVariants as edge
-use Rattle.pp_graph.specs.declared.call.BuilderCall.{BuilderCall}
-use Rattle.pp_graph.specs.declared.call.BuilderCall.TheVariants as call
-use Rattle.pp_graph.specs.declared.call.Sort.TheVariants as sort
-use Rattle.pp_graph.specs.Widths.{greatest}
+use Rattle.pp_rules.specs.declared.call.Constant.{Constant}
+use Rattle.pp_rules.specs.declared.call.Constant.TheVariants as constant
+use Rattle.pp_rules.specs.declared.call.NamedCode.{NamedCode}
+use Rattle.pp_rules.specs.declared.call.NamedCode.TheVariants as code
+use Rattle.pp_rules.specs.declared.call.NamedKind.{NamedKind}
+use Rattle.pp_rules.specs.declared.call.NamedKind.TheVariants as kind
+use Rattle.pp_rules.specs.declared.call.NamedEdge.TheVariants as edge
+use Rattle.pp_rules.specs.declared.call.BuilderCall.{BuilderCall}
+use Rattle.pp_rules.specs.declared.call.BuilderCall.TheVariants as call
 use Rattle.pp_graph.specs.Plan.{Plan}
-use Rattle.pp_graph.specs.Calls.{own_calls, names_of}
+use Rattle.pp_rules.specs.Calls.{own_calls, names_of}
+use Rattle.pp_rules.specs.Declarations.{Tables, host_decl, span_decl, tables_of, greatest_of}
 
 -- the place of the first of these names that is equal, or their count
 abbrev pub place_of : List (List ℕ) → List ℕ → ℕ
 place_of names name = position_or_len (bytes_eq name) names
-
--- the names of the declarations of each sort, in order, and the properties themselves
-pub record Tables : Type 0 where
-  pub props : List PropDecl
-  pub prop_names : List (List ℕ)
-  pub hosts : List (List ℕ)
-  pub spans : List (List ℕ)
-  pub nodes : List (List ℕ)
-
-abbrev pub prop_decl : BuilderCall → Option PropDecl
-prop_decl (call.Prop name width) = Some (record { name = name; width = width })
-prop_decl (call.Host name value) = none
-prop_decl (call.Span name) = none
-prop_decl (call.Entry node) = none
-prop_decl (call.Finish prop host) = none
-prop_decl (call.Node name what) = none
-prop_decl (call.Edge when target) = none
-
-abbrev pub host_decl : BuilderCall → Option HostDecl
-host_decl (call.Prop name width) = none
-host_decl (call.Host name value) = Some (record { name = name; value = value })
-host_decl (call.Span name) = none
-host_decl (call.Entry node) = none
-host_decl (call.Finish prop host) = none
-host_decl (call.Node name what) = none
-host_decl (call.Edge when target) = none
-
-abbrev pub span_decl : BuilderCall → Option SpanDecl
-span_decl (call.Prop name width) = none
-span_decl (call.Host name value) = none
-span_decl (call.Span name) = Some (record { name = name })
-span_decl (call.Entry node) = none
-span_decl (call.Finish prop host) = none
-span_decl (call.Node name what) = none
-span_decl (call.Edge when target) = none
-
-abbrev pub tables_of : List BuilderCall → Tables
-tables_of calls = record {
-  props = filter_map prop_decl calls;
-  prop_names = names_of sort.Prop calls;
-  hosts = names_of sort.Host calls;
-  spans = names_of sort.Span calls;
-  nodes = names_of sort.Node calls;
-}
-
--- the greatest value of the property of this name; of one that is not there, the greatest of all
-abbrev pub greatest_of : Tables → List ℕ → ℕ
-greatest_of t prop = unwrap_or (option_map (λ (p : PropDecl). greatest p.width) (find (λ (p : PropDecl). bytes_eq prop p.name) t.props)) (2 ^ 64 - 1)
 
 abbrev pub constant_code : Constant → ℕ → ℕ → Code
 constant_code constant.Update prop value = placed_code.Update prop value

@@ -1,26 +1,27 @@
 // The builder: calls in order, and the graph that they give.
 ghost use Rattle.std.specs.Prelude.{◌≡◌, ◌+◌, ◌<◌, ◌^◌, map, ◌++◌, ◌∷◌, [], true, false, length, IfOk, IfErr, OnOk, OnErr, if◌then◌else◌};
-ghost use Rattle.pp_graph.specs.declared.call.BuilderCall.TheVariants as call;
-ghost use Rattle.pp_graph.specs.declared.call.NamedEdge.TheVariants as edge;
-ghost use Rattle.pp_graph.specs.declared.call.NamedCode.TheVariants as code;
+ghost use Rattle.pp_rules.specs.declared.call.BuilderCall.TheVariants as call;
+ghost use Rattle.pp_rules.specs.declared.call.NamedEdge.TheVariants as edge;
+ghost use Rattle.pp_rules.specs.declared.call.NamedCode.TheVariants as code;
 ghost use Rattle.pp_graph.specs.declared.builder.LastNode.TheVariants as last;
-ghost use Rattle.pp_graph.specs.Names.{IsName};
-ghost use Rattle.pp_graph.specs.Calls.{last_node as last_node_of, has_otherwise as has_otherwise_of, last_of as last_node_kind, named_kind, named_code, KindHasForm, CodeHasForm, MayFollow, HaveForm, is_otherwise_edge};
+ghost use Rattle.pp_rules.specs.Names.{IsName};
+ghost use Rattle.pp_graph.specs.Calls.{last_node as last_node_of, has_otherwise as has_otherwise_of, last_of as last_node_kind, named_kind, named_code, KindHasForm, CodeHasForm, MayFollow, HaveForm};
+ghost use Rattle.pp_rules.specs.Calls.{is_otherwise_edge};
 ghost use Rattle.pp_bytes.specs.Bytes.{bytes_of};
-ghost use Rattle.pp_graph.specs.Sets.{key_calls, peek_calls, byte_call};
+ghost use Rattle.pp_rules.specs.Sets.{key_calls, peek_calls, byte_call};
 ghost use Rattle.pp_graph.specs.Built.{built};
-ghost use Rattle.pp_graph.specs.Rules.{KeepsRules, IsFault};
+ghost use Rattle.pp_rules.specs.Rules.{KeepsRules};
+ghost use Rattle.pp_graph.specs.Faults.{IsFault};
 
-use crate::call::{BuilderCall, CodeText, Constant, KindText, NamedCode, NamedEdge, NamedKind};
-use crate::calls::{ByteUse, Calls};
-use crate::declared::Declared;
+use crate::build::build;
+use crate::call::{CodeText, KindText};
 use crate::fault::{GraphFault, NoMemory};
-use crate::graph::{Graph, Width};
-use crate::name::{Name, Reason};
-use crate::rules::first_fault;
-use crate::values::Values;
-use crate::whole::build;
+use crate::graph::Graph;
 use pp_bytes::{ByteSet, Listed};
+use pp_rules::{
+    BuilderCall, ByteUse, Calls, Constant, Declared, Name, NamedCode, NamedEdge, NamedKind, Reason,
+    Values, Width, first_fault,
+};
 use std::alloc::Global;
 use std::marker::Model;
 
@@ -50,7 +51,7 @@ pub struct GraphBuilder {
 
 impl Model for GraphBuilder {
     ghost use Rattle.std.specs.Prelude.{List};
-    ghost use Rattle.pp_graph.specs.declared.call.BuilderCall.{BuilderCall};
+    ghost use Rattle.pp_rules.specs.declared.call.BuilderCall.{BuilderCall};
     ghost use Rattle.pp_graph.specs.Calls.{IsRecord};
 
     ghost Value = { List BuilderCall };

@@ -2,39 +2,10 @@
 ghost use Rattle.std.specs.Prelude.{◌≡◌};
 ghost use Rattle.pp_graph.specs.Plan.{IsWellFormed};
 
-use crate::name::Name;
 use crate::node::Node;
 use pp_bytes::Listed;
+use pp_rules::{HostDecl, PropDecl, SpanDecl};
 use std::marker::Model;
-
-/// How many bits a property has.
-#[derive(Clone, Copy, Debug, PartialEq, Eq)]
-pub enum Width {
-    W8,
-    W16,
-    W32,
-    W64,
-}
-
-/// A property: its name and its width.
-#[derive(Debug, Drop)]
-pub struct PropDecl {
-    pub name: Name,
-    pub width: Width,
-}
-
-/// A host code: its name, and whether it is asked with the number that the edge carried.
-#[derive(Debug, Drop)]
-pub struct HostDecl {
-    pub name: Name,
-    pub value: bool,
-}
-
-/// A span: its name.
-#[derive(Debug, Drop)]
-pub struct SpanDecl {
-    pub name: Name,
-}
 
 /// The parts of a graph, which a builder gives.
 #[derive(Debug, Drop)]
@@ -69,7 +40,7 @@ impl Model for Graph {
 }
 
 impl Graph {
-    ghost use Rattle.pp_graph.specs.Parts.{plan_of};
+    ghost use Rattle.pp_graph.specs.steps.Parts.{plan_of};
 
     /// A graph of these parts, which keep the rules.
     pub(crate) fn of(parts: Parts) -> Graph

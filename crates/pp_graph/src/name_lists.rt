@@ -1,11 +1,10 @@
 // Lists of the names that calls declare.
 ghost use Rattle.std.specs.Prelude.{◌≡◌, ◌<◌, ◌^◌, length, IfOk, OnOk};
 ghost use Rattle.pp_graph.specs.Built.{place_of as place_among};
-ghost use Rattle.pp_graph.specs.NameLists.{no_names, with_call, with_name, names_in};
+ghost use Rattle.pp_graph.specs.steps.NameLists.{no_names, with_call, with_name, names_in};
 
-use crate::call::BuilderCall;
-use crate::name::Name;
 use indexmap::IndexSet;
+use pp_rules::{BuilderCall, Name};
 use std::alloc::{AllocError, Global};
 use std::marker::Model;
 
@@ -22,7 +21,7 @@ pub(crate) struct NameLists {
 }
 
 impl Model for NameLists {
-    ghost use Rattle.pp_graph.specs.NameLists.{NameLists};
+    ghost use Rattle.pp_graph.specs.steps.NameLists.{NameLists};
 
     ghost Value = { NameLists };
 

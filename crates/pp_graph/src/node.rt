@@ -1,6 +1,6 @@
 // The nodes of a graph.
-use crate::name::{Name, Reason};
 use pp_bytes::{Fold, Listed};
+use pp_rules::{Name, Reason};
 
 /// What an invoke node runs. Hosts and properties are named by their places, from 0.
 #[derive(Clone, Copy, Debug, PartialEq, Eq)]

@@ -1,14 +1,13 @@
 // Where declarations stand among those of their sort.
 ghost use Rattle.std.specs.Prelude.{◌≡◌, ◌<◌, ◌^◌, length, IfOk};
-ghost use Rattle.pp_graph.specs.declared.call.Sort.TheVariants as sorts;
-ghost use Rattle.pp_graph.specs.Calls.{names_of};
-ghost use Rattle.pp_graph.specs.Built.{place_of, greatest_of as greatest_in, tables_of};
-ghost use Rattle.pp_graph.specs.Rules.{KeepsRules};
+ghost use Rattle.pp_rules.specs.declared.call.Sort.TheVariants as sorts;
+ghost use Rattle.pp_rules.specs.Calls.{names_of};
+ghost use Rattle.pp_graph.specs.Built.{place_of};
+ghost use Rattle.pp_rules.specs.Declarations.{greatest_of as greatest_in, tables_of};
+ghost use Rattle.pp_rules.specs.Rules.{KeepsRules};
 
-use crate::call::BuilderCall;
-use crate::declared::Declared;
-use crate::name::Name;
 use crate::name_lists::NameLists;
+use pp_rules::{BuilderCall, Declared, Name};
 use std::alloc::{AllocError, Global};
 use std::marker::Model;
 
@@ -21,8 +20,8 @@ pub(crate) struct Places<'d, 'c> {
 
 impl<'d, 'c> Model for Places<'d, 'c> {
     ghost use Rattle.std.specs.Prelude.{List};
-    ghost use Rattle.pp_graph.specs.declared.call.BuilderCall.{BuilderCall};
-    ghost use Rattle.pp_graph.specs.Lookups.{HasPlaces};
+    ghost use Rattle.pp_rules.specs.declared.call.BuilderCall.{BuilderCall};
+    ghost use Rattle.pp_graph.specs.steps.Places.{HasPlaces};
 
     ghost Value = { List BuilderCall };
 

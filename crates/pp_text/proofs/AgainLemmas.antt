@@ -4,9 +4,9 @@ use Rattle.std.specs.Prelude.{None as none}
 use Rattle.std.proofs.lemmas.List.{append-nil}
 use Rattle.std.proofs.lemmas.List.Elements.{filter_map-append}
 use Rattle.pp_bytes.specs.declared.fold.Fold.{Fold}
-use Rattle.pp_graph.specs.declared.graph.PropDecl.{PropDecl}
-use Rattle.pp_graph.specs.declared.graph.HostDecl.{HostDecl}
-use Rattle.pp_graph.specs.declared.graph.SpanDecl.{SpanDecl}
+use Rattle.pp_rules.specs.declared.declaration.PropDecl.{PropDecl}
+use Rattle.pp_rules.specs.declared.declaration.HostDecl.{HostDecl}
+use Rattle.pp_rules.specs.declared.declaration.SpanDecl.{SpanDecl}
 use Rattle.pp_graph.specs.declared.node.Code.{Code}
 use Rattle.pp_graph.specs.declared.node.Code.TheVariants as placed_code
 use Rattle.pp_graph.specs.declared.node.Key.{Key}
@@ -16,11 +16,12 @@ use Rattle.pp_graph.specs.declared.node.Other.{Other}
 use Rattle.pp_graph.specs.declared.node.Kind.{Kind}
 use Rattle.pp_graph.specs.declared.node.Kind.TheVariants as placed
 use Rattle.pp_graph.specs.declared.node.Node.{Node}
-use Rattle.pp_graph.specs.declared.call.BuilderCall.{BuilderCall}
-use Rattle.pp_graph.specs.declared.call.BuilderCall.TheVariants as call
+use Rattle.pp_rules.specs.declared.call.BuilderCall.{BuilderCall}
+use Rattle.pp_rules.specs.declared.call.BuilderCall.TheVariants as call
 use Rattle.pp_graph.specs.Plan.{Plan, IsWellFormed, EachIs, Leads, CodeFits, FitsIn, FinishFits, AreEdges, AreAnswers, IsKey, IsPeek}
-use Rattle.pp_graph.specs.Calls.{own_calls}
-use Rattle.pp_graph.specs.Built.{Tables, tables_of, built, built_by, place_of, code_of, kind_of, key_edge, peek_edge, answer_edge, other_edge, first_of, nodes_in, entry_node, entry_in, finish_places, finish_in}
+use Rattle.pp_rules.specs.Calls.{own_calls}
+use Rattle.pp_rules.specs.Declarations.{Tables, tables_of}
+use Rattle.pp_graph.specs.Built.{built, built_by, place_of, code_of, kind_of, key_edge, peek_edge, answer_edge, other_edge, first_of, nodes_in, entry_node, entry_in, finish_places, finish_in}
 use Rattle.pp_graph.proofs.TableLemmas.{Each}
 use Rattle.pp_graph.proofs.EachLemmas.{each-map}
 use Rattle.pp_graph.proofs.SortLemmas.{there-at}

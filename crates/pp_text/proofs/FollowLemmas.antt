@@ -1,15 +1,18 @@
 -- The calls that tell a graph may follow one another.
 use Rattle.std.proofs.Common.{◌≡◌, List, [], ◌∷◌, ◌++◌, false, ℕ, filter_map, refl, ap, sym, ◌∙◌, subst}
 use Rattle.std.proofs.lemmas.List.Elements.{filter_map-append}
-use Rattle.pp_graph.specs.declared.call.NamedEdge.{NamedEdge}
-use Rattle.pp_graph.specs.declared.call.NamedEdge.TheVariants as edge
-use Rattle.pp_graph.specs.declared.call.BuilderCall.{BuilderCall}
-use Rattle.pp_graph.specs.declared.call.BuilderCall.TheVariants as call
+use Rattle.pp_rules.specs.declared.call.NamedEdge.{NamedEdge}
+use Rattle.pp_rules.specs.declared.call.NamedEdge.TheVariants as edge
+use Rattle.pp_rules.specs.declared.call.BuilderCall.{BuilderCall}
+use Rattle.pp_rules.specs.declared.call.BuilderCall.TheVariants as call
 use Rattle.pp_graph.specs.Plan.{Plan, IsWellFormed}
-use Rattle.pp_graph.specs.Calls.{MayFollow, EdgeMayFollow, TakesOtherwise, own_calls, since_node, last_of, has_otherwise, is_otherwise_edge}
-use Rattle.pp_graph.specs.Rules.{edge_of, edges_of, is_otherwise}
+use Rattle.pp_graph.specs.Calls.{MayFollow, EdgeMayFollow, TakesOtherwise, last_of, has_otherwise}
+use Rattle.pp_rules.specs.Calls.{own_calls, since_node, is_otherwise_edge}
+use Rattle.pp_rules.specs.Edges.{edge_of, edges_of}
+use Rattle.pp_rules.specs.Rules.Otherwise.{is_otherwise}
 use Rattle.pp_graph.proofs.TableLemmas.{Each}
-use Rattle.pp_graph.proofs.EachLemmas.{Pairs, passes_some, any-filter_map, each-map}
+use Rattle.pp_graph.proofs.EachLemmas.{Pairs, each-map}
+use Rattle.pp_rules.proofs.ListLemmas.{passes_some, any-filter_map}
 use Rattle.pp_text.specs.Sequence.{Follow}
 use Rattle.pp_text.specs.Telling.{calls_of, named_kind}
 use Rattle.pp_text.proofs.ListLemmas.{Along, each-middle, pairs-middle, any-fails}

@@ -9,16 +9,22 @@ use Rattle.std.proofs.lemmas.List.Elements.{filter_map-append}
 use Rattle.std.proofs.lemmas.List.Sums.{sum_by-cons, sum_by-append}
 use Rattle.pp_graph.specs.declared.node.Kind.{Kind}
 use Rattle.pp_graph.specs.declared.node.Kind.TheVariants as placed
-use Rattle.pp_graph.specs.declared.call.NamedEdge.{NamedEdge}
-use Rattle.pp_graph.specs.declared.call.NamedEdge.TheVariants as edge
-use Rattle.pp_graph.specs.declared.call.BuilderCall.{BuilderCall}
-use Rattle.pp_graph.specs.declared.call.BuilderCall.TheVariants as call
-use Rattle.pp_graph.specs.declared.fault.GraphRule.{GraphRule}
-use Rattle.pp_graph.specs.declared.fault.GraphRule.TheVariants.{DuplicateName, UnknownName, NoEntry, NoOtherwise, KeyClash, PrefixGap, ValueTarget, ValueTooWide, EmptyKey, KeyNotFolded, TooMany}
-use Rattle.pp_graph.specs.Keys.{has_gap}
+use Rattle.pp_rules.specs.declared.call.NamedEdge.{NamedEdge}
+use Rattle.pp_rules.specs.declared.call.NamedEdge.TheVariants as edge
+use Rattle.pp_rules.specs.declared.call.BuilderCall.{BuilderCall}
+use Rattle.pp_rules.specs.declared.call.BuilderCall.TheVariants as call
+use Rattle.pp_rules.specs.declared.rules.GraphRule.{GraphRule}
+use Rattle.pp_rules.specs.declared.rules.GraphRule.TheVariants.{DuplicateName, UnknownName, NoEntry, NoOtherwise, KeyClash, PrefixGap, ValueTarget, ValueTooWide, EmptyKey, KeyNotFolded, TooMany}
+use Rattle.pp_rules.specs.Keys.{has_gap}
 use Rattle.pp_graph.specs.Plan.{Plan, IsWellFormed}
-use Rattle.pp_graph.specs.Calls.{own_calls, since_node}
-use Rattle.pp_graph.specs.Rules.{edge_of, KeepsRules, Keeps, fails, fails_at_call, fails_at_end, lacks_otherwise, needs_otherwise, is_otherwise, edges_of, edges_clash, is_clash, is_gap, keys_of, key_of_edge, gaps_with, is_lower, lower_kind, is_not_folded, has_upper_case, passes_limit, edge_passes_limit, weight_of_call}
+use Rattle.pp_rules.specs.Calls.{own_calls, since_node}
+use Rattle.pp_rules.specs.Edges.{edge_of, edges_of, keys_of, key_of_edge}
+use Rattle.pp_rules.specs.Rules.{KeepsRules, Keeps, fails, fails_at_call, fails_at_end}
+use Rattle.pp_rules.specs.Rules.Otherwise.{lacks_otherwise, needs_otherwise, is_otherwise}
+use Rattle.pp_rules.specs.Rules.Clash.{edges_clash, is_clash}
+use Rattle.pp_rules.specs.Rules.SortedKeys.{is_gap, gaps_with}
+use Rattle.pp_rules.specs.Rules.Form.{is_lower, lower_kind, is_not_folded, has_upper_case}
+use Rattle.pp_rules.specs.Rules.Limits.{passes_limit, edge_passes_limit, weight_of_call}
 use Rattle.pp_graph.proofs.TableLemmas.{Each}
 use Rattle.pp_graph.proofs.EachLemmas.{each-map, each-both, and_false}
 use Rattle.pp_text.specs.Telling.{calls_of, edge_calls, key_call, peek_call, answer_call, other_call, else_call, named_kind}

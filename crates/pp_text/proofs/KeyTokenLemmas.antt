@@ -4,7 +4,7 @@ use Rattle.std.proofs.lemmas.Bool.{eqb-true}
 use Rattle.std.specs.List.{AllWithin, HoldsAt}
 use Rattle.std.specs.Option.{MatchOption, unwrap_or}
 use Rattle.pp_text.specs.declared.token.Token.{Token as Borrowed}
-use Rattle.pp_graph.specs.Names.{IsName}
+use Rattle.pp_rules.specs.Names.{IsName}
 use Rattle.pp_text.specs.Tokens.{Token, Word, Quoted, Bracketed}
 use Rattle.pp_text.specs.Statements.{NumberFits, carried_tokens, arrow_tokens}
 use Rattle.pp_text.specs.steps.Shapes.{Shape, One, SomeKeys, SomePeeks, IsShape, IsKeyToken, AreKeyTokens}

@@ -8,7 +8,7 @@ use Rattle.std.proofs.lemmas.List.{append-nil}
 use Rattle.std.proofs.lemmas.Slice.Eq.{bytes_eq-Decides}
 use Rattle.pp_graph.specs.Plan.{EachIs}
 use Rattle.pp_graph.specs.Built.{place_of}
-use Rattle.pp_graph.proofs.RuleLemmas.{false_from_not}
+use Rattle.pp_rules.proofs.RuleLemmas.{false_from_not}
 use Rattle.pp_graph.proofs.TableLemmas.{Each, each-at}
 use Rattle.pp_graph.proofs.EachLemmas.{Pairs, each-map, each-from_map}
 

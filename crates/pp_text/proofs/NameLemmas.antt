@@ -8,28 +8,29 @@ use Rattle.std.proofs.Math.Bool.{or-true}
 use Rattle.std.proofs.lemmas.Bool.Decides.{nat_tests}
 use Rattle.std.proofs.lemmas.List.Elements.{filter_map-append}
 use Rattle.std.proofs.lemmas.Slice.Eq.{bytes_eq-Decides}
-use Rattle.pp_graph.specs.declared.graph.PropDecl.{PropDecl}
-use Rattle.pp_graph.specs.declared.graph.HostDecl.{HostDecl}
-use Rattle.pp_graph.specs.declared.graph.SpanDecl.{SpanDecl}
+use Rattle.pp_rules.specs.declared.declaration.PropDecl.{PropDecl}
+use Rattle.pp_rules.specs.declared.declaration.HostDecl.{HostDecl}
+use Rattle.pp_rules.specs.declared.declaration.SpanDecl.{SpanDecl}
 use Rattle.pp_graph.specs.declared.node.Code.{Code}
 use Rattle.pp_graph.specs.declared.node.Code.TheVariants as placed_code
 use Rattle.pp_graph.specs.declared.node.Kind.{Kind}
 use Rattle.pp_graph.specs.declared.node.Kind.TheVariants as placed
 use Rattle.pp_graph.specs.declared.node.Node.{Node}
-use Rattle.pp_graph.specs.declared.call.NamedCode.TheVariants as code
-use Rattle.pp_graph.specs.declared.call.NamedKind.{NamedKind}
-use Rattle.pp_graph.specs.declared.call.NamedKind.TheVariants as kind
-use Rattle.pp_graph.specs.declared.call.BuilderCall.{BuilderCall}
-use Rattle.pp_graph.specs.declared.call.BuilderCall.TheVariants as call
-use Rattle.pp_graph.specs.declared.call.Sort.{Sort}
-use Rattle.pp_graph.specs.declared.call.Sort.TheVariants as sort
-use Rattle.pp_graph.specs.Widths.{greatest}
+use Rattle.pp_rules.specs.declared.call.NamedCode.TheVariants as code
+use Rattle.pp_rules.specs.declared.call.NamedKind.{NamedKind}
+use Rattle.pp_rules.specs.declared.call.NamedKind.TheVariants as kind
+use Rattle.pp_rules.specs.declared.call.BuilderCall.{BuilderCall}
+use Rattle.pp_rules.specs.declared.call.BuilderCall.TheVariants as call
+use Rattle.pp_rules.specs.declared.call.Sort.{Sort}
+use Rattle.pp_rules.specs.declared.call.Sort.TheVariants as sort
+use Rattle.pp_rules.specs.Widths.{greatest}
 use Rattle.pp_graph.specs.Plan.{Plan, IsWellFormed, StoresIn, CodeFits, FitsIn, host_value, is_value_code, is_value_kind}
-use Rattle.pp_graph.specs.Calls.{is_declared, names_of}
-use Rattle.pp_graph.specs.Built.{tables_of, greatest_of, host_decl}
-use Rattle.pp_graph.specs.Rules.{declares_value_host, is_value_host, code_takes_value, kind_takes_value, adds_value_node, is_value_node, stores_narrow}
+use Rattle.pp_rules.specs.Calls.{is_declared, names_of}
+use Rattle.pp_rules.specs.Declarations.{tables_of, greatest_of, host_decl}
+use Rattle.pp_rules.specs.Rules.Numbers.{declares_value_host, is_value_host, code_takes_value, kind_takes_value, adds_value_node, is_value_node, stores_narrow}
 use Rattle.pp_graph.proofs.TableLemmas.{has_name}
-use Rattle.pp_graph.proofs.EachLemmas.{passes_some, any-place, any-filter_map, find-place, and_false}
+use Rattle.pp_rules.proofs.ListLemmas.{passes_some, any-filter_map}
+use Rattle.pp_graph.proofs.EachLemmas.{any-place, find-place, and_false}
 use Rattle.pp_graph.proofs.SortLemmas.{declared-names, there-at}
 use Rattle.pp_text.specs.Telling.{calls_of, prop_call, host_call, span_call, node_calls, edge_calls, node_name, prop_name, host_name, span_name, named_code, named_kind}
 use Rattle.pp_text.proofs.ListLemmas.{name_at, name-at, pairs-from_places, nothing-told}

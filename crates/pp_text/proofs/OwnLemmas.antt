@@ -11,18 +11,21 @@ use Rattle.pp_graph.specs.declared.node.Peek.{Peek}
 use Rattle.pp_graph.specs.declared.node.Answer.{Answer}
 use Rattle.pp_graph.specs.declared.node.Kind.{Kind}
 use Rattle.pp_graph.specs.declared.node.Kind.TheVariants as placed
-use Rattle.pp_graph.specs.declared.call.NamedKind.TheVariants as kind
-use Rattle.pp_graph.specs.declared.call.NamedEdge.{NamedEdge}
-use Rattle.pp_graph.specs.declared.call.NamedEdge.TheVariants as edge
+use Rattle.pp_rules.specs.declared.call.NamedKind.TheVariants as kind
+use Rattle.pp_rules.specs.declared.call.NamedEdge.{NamedEdge}
+use Rattle.pp_rules.specs.declared.call.NamedEdge.TheVariants as edge
 use Rattle.pp_graph.specs.declared.builder.LastNode.{LastNode}
 use Rattle.pp_graph.specs.declared.builder.LastNode.TheVariants as last
-use Rattle.pp_graph.specs.Keys.{has_gap, is_upper_case}
+use Rattle.pp_rules.specs.Keys.{has_gap, is_upper_case}
 use Rattle.pp_graph.specs.Plan.{Plan, FitsIn, IsKey, IsPeek, key_bytes, AreDistinct}
-use Rattle.pp_graph.specs.Calls.{last_of, is_otherwise_edge, TakesOtherwise}
-use Rattle.pp_graph.specs.Rules.{edge_of, edges_clash, begins_with_byte, key_of_edge, has_upper_case, lower_kind}
+use Rattle.pp_graph.specs.Calls.{last_of, TakesOtherwise}
+use Rattle.pp_rules.specs.Calls.{is_otherwise_edge}
+use Rattle.pp_rules.specs.Edges.{edge_of, key_of_edge}
+use Rattle.pp_rules.specs.Rules.Clash.{edges_clash, begins_with_byte}
+use Rattle.pp_rules.specs.Rules.Form.{has_upper_case, lower_kind}
 use Rattle.pp_graph.proofs.TableLemmas.{Each}
 use Rattle.pp_graph.proofs.EachLemmas.{Pairs, each-map, each-append, and_false}
-use Rattle.pp_graph.proofs.RuleLemmas.{false_from_not}
+use Rattle.pp_rules.proofs.RuleLemmas.{false_from_not}
 use Rattle.pp_text.specs.Telling.{edge_calls, key_call, peek_call, answer_call, named_kind}
 use Rattle.pp_text.proofs.ListLemmas.{each-all, each-from_is, each-map_of, pairs-from_places, pairs-joined, pairs-map_of, pairs-of_map, pairs-weaker, differ_bytes, told-as, nothing-told}
 use Rattle.pp_text.proofs.AgainLemmas.{match-read, invoke-read}

@@ -6,12 +6,14 @@ use Rattle.std.proofs.lemmas.List.{append-nil}
 use Rattle.std.proofs.lemmas.List.Sums.{fold_push}
 use Rattle.pp_graph.specs.declared.node.Kind.{Kind}
 use Rattle.pp_graph.specs.declared.node.Node.{Node}
-use Rattle.pp_graph.specs.declared.call.BuilderCall.{BuilderCall}
-use Rattle.pp_graph.specs.declared.call.BuilderCall.TheVariants as call
+use Rattle.pp_rules.specs.declared.call.BuilderCall.{BuilderCall}
+use Rattle.pp_rules.specs.declared.call.BuilderCall.TheVariants as call
 use Rattle.pp_graph.specs.declared.builder.LastNode.TheVariants as last
 use Rattle.pp_graph.specs.Plan.{Plan, IsWellFormed, FitsIn}
-use Rattle.pp_graph.specs.Calls.{own_calls, since_node, since_after, last_node, last_of, last_after, has_otherwise, otherwise_after}
-use Rattle.pp_graph.specs.Rules.{is_lower, lower_kind, lower_after, is_otherwise}
+use Rattle.pp_rules.specs.Calls.{own_calls, since_node, since_after}
+use Rattle.pp_graph.specs.Calls.{last_node, last_of, last_after, has_otherwise, otherwise_after}
+use Rattle.pp_rules.specs.Rules.Form.{is_lower, lower_kind, lower_after}
+use Rattle.pp_rules.specs.Rules.Otherwise.{is_otherwise}
 use Rattle.pp_graph.proofs.TableLemmas.{Each}
 use Rattle.pp_text.specs.Telling.{calls_of, prop_call, host_call, span_call, finish_calls, node_calls, edge_calls, named_kind}
 use Rattle.pp_text.proofs.ListLemmas.{Along, AtEach, along-each, along-free, any-push, each-all, each-map_of, each-from_is}

@@ -4,7 +4,7 @@ use Rattle.std.specs.Prelude.{All, IfOk, MatchResult}
 use Rattle.pp_graph.specs.Built.{built}
 use Rattle.pp_graph.specs.Calls.{HaveForm}
 use Rattle.pp_graph.specs.Plan.{Plan, IsWellFormed}
-use Rattle.pp_graph.specs.Rules.{KeepsRules}
+use Rattle.pp_rules.specs.Rules.{KeepsRules}
 use Rattle.pp_text.specs.declared.fault.TextFault.{TextFault}
 use Rattle.pp_text.specs.declared.fault.TextFault.TheVariants.{NoMemory}
 use Rattle.pp_text.specs.Sequence.{Follow}

@@ -4,7 +4,7 @@ use Rattle.std.specs.Prelude.{All, if◌then◌else◌}
 use Rattle.std.specs.List.{list_all}
 use Rattle.std.proofs.lemmas.Bool.{false≢true, agree_below_at, and_parts, and_from, eqb-true}
 use Rattle.std.proofs.lemmas.List.Elements.{All-head, All-tail}
-use Rattle.pp_graph.specs.Names.{is_plain_byte}
+use Rattle.pp_rules.specs.Names.{is_plain_byte}
 use Rattle.pp_text.specs.Tokens.{is_printed, is_inside}
 use Rattle.pp_text.specs.Keys.{Written, Raw, Hex, written_text, byte_of, is_key_byte, SpellsKey}
 use Rattle.pp_text.specs.Printed.{hex_digit, printed_byte}

@@ -4,7 +4,7 @@ use Rattle.std.specs.Prelude.{codes}
 use Rattle.std.specs.List.{list_all}
 use Rattle.std.specs.Prelude.{None as none}
 use Rattle.std.proofs.lemmas.List.{append-nil}
-use Rattle.pp_graph.specs.declared.call.BuilderCall.{BuilderCall}
+use Rattle.pp_rules.specs.declared.call.BuilderCall.{BuilderCall}
 use Rattle.pp_graph.specs.Calls.{HasForm}
 use Rattle.pp_graph.specs.Plan.{Plan}
 use Rattle.pp_graph.proofs.TableLemmas.{Each}

@@ -9,19 +9,19 @@ use Rattle.std.proofs.lemmas.Fmt.{decimal_by_steps}
 use Rattle.std.proofs.lemmas.List.Elements.{All-nil, All-cons}
 use Rattle.pp_bytes.specs.declared.fold.Fold.{Fold}
 use Rattle.pp_bytes.specs.declared.fold.Fold.TheVariants.{Same, Lower}
-use Rattle.pp_graph.specs.declared.graph.Width.{Width}
-use Rattle.pp_graph.specs.declared.graph.Width.TheVariants.{W8, W16, W32, W64}
-use Rattle.pp_graph.specs.declared.call.Constant.{Constant}
-use Rattle.pp_graph.specs.declared.call.Constant.TheVariants as constant
-use Rattle.pp_graph.specs.declared.call.NamedCode.{NamedCode}
-use Rattle.pp_graph.specs.declared.call.NamedCode.TheVariants as code
-use Rattle.pp_graph.specs.declared.call.NamedKind.{NamedKind}
-use Rattle.pp_graph.specs.declared.call.NamedKind.TheVariants as kind
-use Rattle.pp_graph.specs.declared.call.NamedEdge.{NamedEdge}
-use Rattle.pp_graph.specs.declared.call.NamedEdge.TheVariants as edge
-use Rattle.pp_graph.specs.declared.call.BuilderCall.{BuilderCall}
-use Rattle.pp_graph.specs.declared.call.BuilderCall.TheVariants as call
-use Rattle.pp_graph.specs.Names.{begins_name, continues_name, is_plain_byte, IsName, IsReason}
+use Rattle.pp_rules.specs.declared.declaration.Width.{Width}
+use Rattle.pp_rules.specs.declared.declaration.Width.TheVariants.{W8, W16, W32, W64}
+use Rattle.pp_rules.specs.declared.call.Constant.{Constant}
+use Rattle.pp_rules.specs.declared.call.Constant.TheVariants as constant
+use Rattle.pp_rules.specs.declared.call.NamedCode.{NamedCode}
+use Rattle.pp_rules.specs.declared.call.NamedCode.TheVariants as code
+use Rattle.pp_rules.specs.declared.call.NamedKind.{NamedKind}
+use Rattle.pp_rules.specs.declared.call.NamedKind.TheVariants as kind
+use Rattle.pp_rules.specs.declared.call.NamedEdge.{NamedEdge}
+use Rattle.pp_rules.specs.declared.call.NamedEdge.TheVariants as edge
+use Rattle.pp_rules.specs.declared.call.BuilderCall.{BuilderCall}
+use Rattle.pp_rules.specs.declared.call.BuilderCall.TheVariants as call
+use Rattle.pp_rules.specs.Names.{begins_name, continues_name, is_plain_byte, IsName, IsReason}
 use Rattle.pp_graph.specs.Calls.{HasForm, CodeHasForm, KindHasForm}
 use Rattle.pp_graph.proofs.TableLemmas.{Each}
 use Rattle.pp_graph.proofs.EachLemmas.{each-append}

@@ -2,12 +2,12 @@
 use Rattle.std.proofs.Common.{◌≡◌, ◌≢◌, ℕ, ◌+◌, ◌<◌, ◌⊎◌, inl, inr, List, [], ◌∷◌, length, get_or, max, refl, sym, ap, subst, ◌∙◌}
 use Rattle.std.proofs.lemmas.Bool.{cases_order}
 use Rattle.std.specs.Prelude.{Option, None, Result, Ok, Err, IfOk, MatchResult}
-use Rattle.pp_graph.specs.declared.fault.GraphRule.{GraphRule}
-use Rattle.pp_graph.specs.declared.fault.GraphRule.TheVariants.{DuplicateName, UnknownName, NoEntry, NoOtherwise, KeyClash, PrefixGap, ValueTarget, ValueTooWide, EmptyKey, KeyNotFolded, TooMany}
+use Rattle.pp_rules.specs.declared.rules.GraphRule.{GraphRule}
+use Rattle.pp_rules.specs.declared.rules.GraphRule.TheVariants.{DuplicateName, UnknownName, NoEntry, NoOtherwise, KeyClash, PrefixGap, ValueTarget, ValueTooWide, EmptyKey, KeyNotFolded, TooMany}
 use Rattle.pp_graph.specs.Built.{built}
 use Rattle.pp_graph.specs.Plan.{Plan}
-use Rattle.pp_graph.specs.Rules.{KeepsRules, IsFirstFault, order}
-use Rattle.pp_graph.specs.declared.call.BuilderCall.{BuilderCall}
+use Rattle.pp_rules.specs.Rules.{KeepsRules, IsFirstFault, order}
+use Rattle.pp_rules.specs.declared.call.BuilderCall.{BuilderCall}
 use Rattle.pp_text.specs.declared.fault.TextFault.{TextFault}
 use Rattle.pp_text.specs.declared.fault.TextFault.TheVariants as fault
 use Rattle.pp_text.specs.Outcome.{Reads, Breaks, IsFaultAlone}

@@ -5,7 +5,7 @@ use Rattle.std.proofs.lemmas.List.Concat.{get_or-flat_map}
 use Rattle.std.proofs.lemmas.Option.{unwrap_or-slice_get}
 use Rattle.std.proofs.lemmas.Simd.{splat_is_map}
 use Rattle.std.specs.Prelude.{unwrap_or, slice_get}
-use Rattle.pp_graph.specs.declared.call.BuilderCall.{BuilderCall}
+use Rattle.pp_rules.specs.declared.call.BuilderCall.{BuilderCall}
 use Rattle.pp_text.specs.declared.calls.Run.{Run}
 use Rattle.pp_text.specs.steps.Lines.{lines_of}
 

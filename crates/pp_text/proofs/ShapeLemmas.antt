@@ -4,21 +4,22 @@ use Rattle.std.specs.Prelude.{None as none}
 use Rattle.std.specs.List.{cons_option}
 use Rattle.std.proofs.lemmas.List.{append-nil}
 use Rattle.std.proofs.lemmas.List.Elements.{filter_map-append}
-use Rattle.pp_graph.specs.declared.graph.PropDecl.{PropDecl}
-use Rattle.pp_graph.specs.declared.graph.HostDecl.{HostDecl}
-use Rattle.pp_graph.specs.declared.graph.SpanDecl.{SpanDecl}
+use Rattle.pp_rules.specs.declared.declaration.PropDecl.{PropDecl}
+use Rattle.pp_rules.specs.declared.declaration.HostDecl.{HostDecl}
+use Rattle.pp_rules.specs.declared.declaration.SpanDecl.{SpanDecl}
 use Rattle.pp_graph.specs.declared.node.Kind.{Kind}
 use Rattle.pp_graph.specs.declared.node.Kind.TheVariants as placed
 use Rattle.pp_graph.specs.declared.node.Node.{Node}
-use Rattle.pp_graph.specs.declared.call.NamedKind.{NamedKind}
-use Rattle.pp_graph.specs.declared.call.NamedEdge.{NamedEdge}
-use Rattle.pp_graph.specs.declared.call.BuilderCall.{BuilderCall}
-use Rattle.pp_graph.specs.declared.call.BuilderCall.TheVariants as call
-use Rattle.pp_graph.specs.declared.call.Sort.{Sort}
-use Rattle.pp_graph.specs.declared.call.Sort.TheVariants as sort
+use Rattle.pp_rules.specs.declared.call.NamedKind.{NamedKind}
+use Rattle.pp_rules.specs.declared.call.NamedEdge.{NamedEdge}
+use Rattle.pp_rules.specs.declared.call.BuilderCall.{BuilderCall}
+use Rattle.pp_rules.specs.declared.call.BuilderCall.TheVariants as call
+use Rattle.pp_rules.specs.declared.call.Sort.{Sort}
+use Rattle.pp_rules.specs.declared.call.Sort.TheVariants as sort
 use Rattle.pp_graph.specs.Plan.{Plan}
-use Rattle.pp_graph.specs.Calls.{declared_by, name_if, names_of, own_calls}
-use Rattle.pp_graph.specs.Built.{Tables, prop_decl, host_decl, span_decl, nodes_in}
+use Rattle.pp_rules.specs.Calls.{declared_by, name_if, names_of, own_calls}
+use Rattle.pp_rules.specs.Declarations.{Tables, prop_decl, host_decl, span_decl}
+use Rattle.pp_graph.specs.Built.{nodes_in}
 use Rattle.pp_graph.proofs.TableLemmas.{Each}
 use Rattle.pp_graph.proofs.EachLemmas.{each-append}
 use Rattle.pp_graph.proofs.SortLemmas.{props-names, hosts-names, spans-names}

@@ -2,9 +2,9 @@
 use Rattle.std.proofs.Common.{◌≡◌, ℕ, ◌<◌, List, [], ◌∷◌, ◌++◌, Bool, true, false, not, ◌&&◌, ◌||◌, nat_lt, length, map, slice_get, flat_map, Option, Some, refl, ap, sym, ◌∙◌, subst, arith}
 use Rattle.std.specs.Prelude.{None as none}
 use Rattle.pp_bytes.specs.declared.fold.Fold.{Fold}
-use Rattle.pp_graph.specs.declared.graph.PropDecl.{PropDecl}
-use Rattle.pp_graph.specs.declared.graph.HostDecl.{HostDecl}
-use Rattle.pp_graph.specs.declared.graph.SpanDecl.{SpanDecl}
+use Rattle.pp_rules.specs.declared.declaration.PropDecl.{PropDecl}
+use Rattle.pp_rules.specs.declared.declaration.HostDecl.{HostDecl}
+use Rattle.pp_rules.specs.declared.declaration.SpanDecl.{SpanDecl}
 use Rattle.pp_graph.specs.declared.node.Code.{Code}
 use Rattle.pp_graph.specs.declared.node.Code.TheVariants as placed_code
 use Rattle.pp_graph.specs.declared.node.Key.{Key}
@@ -13,18 +13,22 @@ use Rattle.pp_graph.specs.declared.node.Answer.{Answer}
 use Rattle.pp_graph.specs.declared.node.Kind.{Kind}
 use Rattle.pp_graph.specs.declared.node.Kind.TheVariants as placed
 use Rattle.pp_graph.specs.declared.node.Node.{Node}
-use Rattle.pp_graph.specs.declared.call.NamedCode.{NamedCode}
-use Rattle.pp_graph.specs.declared.call.NamedEdge.{NamedEdge}
-use Rattle.pp_graph.specs.declared.call.NamedEdge.TheVariants as edge
-use Rattle.pp_graph.specs.declared.call.BuilderCall.{BuilderCall}
-use Rattle.pp_graph.specs.declared.call.BuilderCall.TheVariants as call
-use Rattle.pp_graph.specs.declared.call.Sort.TheVariants as sort
-use Rattle.pp_graph.specs.Names.{IsName}
-use Rattle.pp_graph.specs.Widths.{greatest}
+use Rattle.pp_rules.specs.declared.call.NamedCode.{NamedCode}
+use Rattle.pp_rules.specs.declared.call.NamedEdge.{NamedEdge}
+use Rattle.pp_rules.specs.declared.call.NamedEdge.TheVariants as edge
+use Rattle.pp_rules.specs.declared.call.BuilderCall.{BuilderCall}
+use Rattle.pp_rules.specs.declared.call.BuilderCall.TheVariants as call
+use Rattle.pp_rules.specs.declared.call.Sort.TheVariants as sort
+use Rattle.pp_rules.specs.Names.{IsName}
+use Rattle.pp_rules.specs.Widths.{greatest}
 use Rattle.pp_graph.specs.Plan.{Plan, IsWellFormed, Leads, Holds, CodeFits, FitsIn, FinishFits, IsKey, IsPeek}
-use Rattle.pp_graph.specs.Calls.{HasForm, HaveForm, CodeHasForm, is_declared, named_by_code}
-use Rattle.pp_graph.specs.Rules.{names_unknown, is_value_fault, is_too_wide, is_wide_code, is_empty_key, is_value_node, carries_number, edge_of}
-use Rattle.pp_graph.specs.Built.{greatest_of, tables_of}
+use Rattle.pp_graph.specs.Calls.{HasForm, HaveForm, CodeHasForm}
+use Rattle.pp_rules.specs.Calls.{is_declared, named_by_code}
+use Rattle.pp_rules.specs.Rules.Names.{names_unknown}
+use Rattle.pp_rules.specs.Rules.Numbers.{is_value_fault, is_too_wide, is_wide_code, is_value_node, carries_number}
+use Rattle.pp_rules.specs.Rules.Form.{is_empty_key}
+use Rattle.pp_rules.specs.Edges.{edge_of}
+use Rattle.pp_rules.specs.Declarations.{greatest_of, tables_of}
 use Rattle.pp_graph.proofs.TableLemmas.{Each, each-at}
 use Rattle.pp_graph.proofs.EachLemmas.{each-map, each-append}
 use Rattle.pp_graph.proofs.SortLemmas.{there-at}

@@ -7,17 +7,18 @@ use Rattle.std.proofs.lemmas.Bool.Decides.{nat_tests}
 use Rattle.std.proofs.lemmas.List.{length-map}
 use Rattle.std.proofs.lemmas.List.Elements.{filter_map-append}
 use Rattle.std.proofs.lemmas.List.Sums.{sum_by-cons, sum_by-append}
-use Rattle.pp_graph.specs.declared.graph.PropDecl.{PropDecl}
-use Rattle.pp_graph.specs.declared.graph.HostDecl.{HostDecl}
-use Rattle.pp_graph.specs.declared.graph.SpanDecl.{SpanDecl}
+use Rattle.pp_rules.specs.declared.declaration.PropDecl.{PropDecl}
+use Rattle.pp_rules.specs.declared.declaration.HostDecl.{HostDecl}
+use Rattle.pp_rules.specs.declared.declaration.SpanDecl.{SpanDecl}
 use Rattle.pp_graph.specs.declared.node.Node.{Node}
-use Rattle.pp_graph.specs.declared.call.BuilderCall.{BuilderCall}
-use Rattle.pp_graph.specs.declared.call.BuilderCall.TheVariants as call
-use Rattle.pp_graph.specs.declared.call.Sort.{Sort}
-use Rattle.pp_graph.specs.declared.call.Sort.TheVariants as sort
+use Rattle.pp_rules.specs.declared.call.BuilderCall.{BuilderCall}
+use Rattle.pp_rules.specs.declared.call.BuilderCall.TheVariants as call
+use Rattle.pp_rules.specs.declared.call.Sort.{Sort}
+use Rattle.pp_rules.specs.declared.call.Sort.TheVariants as sort
 use Rattle.pp_graph.specs.Plan.{Plan, IsWellFormed}
-use Rattle.pp_graph.specs.Calls.{declared_by, names_of, name_if, same_sort}
-use Rattle.pp_graph.specs.Rules.{is_duplicate, is_redeclared, has_entry, is_sort, count_of}
+use Rattle.pp_rules.specs.Calls.{declared_by, names_of, name_if, same_sort}
+use Rattle.pp_rules.specs.Rules.Names.{is_duplicate, is_redeclared, has_entry}
+use Rattle.pp_rules.specs.Rules.Limits.{is_sort, count_of}
 use Rattle.pp_graph.proofs.TableLemmas.{Each, has_name}
 use Rattle.pp_graph.proofs.EachLemmas.{Pairs, each-map, count-filter_map}
 use Rattle.pp_graph.proofs.SortLemmas.{declared-names}

@@ -6,9 +6,9 @@ use Rattle.pp_graph.specs.declared.node.Key.{Key}
 use Rattle.pp_graph.specs.declared.node.Kind.{Kind}
 use Rattle.pp_graph.specs.declared.node.Kind.TheVariants as placed
 use Rattle.pp_graph.specs.declared.node.Node.{Node}
-use Rattle.pp_graph.specs.declared.call.BuilderCall.TheVariants as call
+use Rattle.pp_rules.specs.declared.call.BuilderCall.TheVariants as call
 use Rattle.pp_graph.specs.Plan.{Plan, IsWellFormed, weight_of}
-use Rattle.pp_graph.specs.Rules.{weight_of_call}
+use Rattle.pp_rules.specs.Rules.Limits.{weight_of_call}
 use Rattle.pp_text.specs.Telling.{calls_of, prop_call, host_call, span_call, finish_calls, node_calls, edge_calls, key_call, peek_call, answer_call, other_call, else_call, node_name, named_kind}
 use Rattle.pp_text.proofs.ShapeLemmas.{calls_of-parts, ends_calls, nodes_calls}
 

@@ -15,7 +15,7 @@ use Rattle.pp_text.specs.declared.token.Token.TheVariants as borrowed
 use Rattle.pp_text.specs.Tokens.{Token, Word, Quoted, Bracketed}
 use Rattle.pp_text.specs.Statements.{number_word}
 use Rattle.pp_text.specs.steps.View.{token_of}
-use Rattle.pp_graph.specs.Names.{begins_name, continues_name, is_plain_byte, IsName, IsReason}
+use Rattle.pp_rules.specs.Names.{begins_name, continues_name, is_plain_byte, IsName, IsReason}
 
 -- what a token has between its ends
 inside : Token → List ℕ

@@ -2,7 +2,7 @@
 use Rattle.std.specs.Prelude.{◌≡◌, ◌≢◌, ℕ, ◌+◌, ◌*◌, List, [], ◌∷◌, ◌++◌, Bool, ◌&&◌, ◌||◌, not, nat_le, nat_lt, ◌==◌, IsTrue, map, filter, flat_map, if◌then◌else◌}
 use Rattle.std.specs.List.{list_all, list_any, range_with_len}
 use Rattle.std.specs.Char.{digit_value}
-use Rattle.pp_graph.specs.Names.{is_plain_byte}
+use Rattle.pp_rules.specs.Names.{is_plain_byte}
 use Rattle.pp_text.specs.Tokens.{Token, Word, Quoted, Bracketed, is_printed}
 
 -- One byte as it is written: raw, by a character behind a backslash, or by two hexadecimal digits behind `\x`.

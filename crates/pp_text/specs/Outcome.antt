@@ -1,9 +1,9 @@
 -- What reading a text can come to.
 use Rattle.std.specs.Prelude.{◌≡◌, ℕ, ◌+◌, List, length, Result, MatchResult, ◌⊎◌}
-use Rattle.pp_graph.specs.declared.fault.GraphRule.{GraphRule}
+use Rattle.pp_rules.specs.declared.rules.GraphRule.{GraphRule}
 use Rattle.pp_graph.specs.Built.{built}
 use Rattle.pp_graph.specs.Plan.{Plan}
-use Rattle.pp_graph.specs.Rules.{KeepsRules, IsFirstFault}
+use Rattle.pp_rules.specs.Rules.{KeepsRules, IsFirstFault}
 use Rattle.pp_text.specs.declared.fault.TextFault.{TextFault}
 use Rattle.pp_text.specs.declared.fault.TextFault.TheVariants.{NoMemory}
 use Rattle.pp_text.specs.Text.{Told, BeginWithText, line_at}

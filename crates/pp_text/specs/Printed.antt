@@ -1,10 +1,10 @@
 -- The printed text of a graph: one statement a line, one blank between tokens, one key a statement.
 use Rattle.std.specs.Prelude.{ℕ, ◌+◌, ◌/◌, ◌%◌, List, [], ◌∷◌, ◌++◌, codes, flat_map, nat_lt, if◌then◌else◌}
-use Rattle.pp_graph.specs.declared.call.NamedKind.{NamedKind}
-use Rattle.pp_graph.specs.declared.call.NamedEdge.TheVariants as edge
-use Rattle.pp_graph.specs.declared.call.BuilderCall.{BuilderCall}
-use Rattle.pp_graph.specs.declared.call.BuilderCall.TheVariants as call
-use Rattle.pp_graph.specs.Names.{is_plain_byte}
+use Rattle.pp_rules.specs.declared.call.NamedKind.{NamedKind}
+use Rattle.pp_rules.specs.declared.call.NamedEdge.TheVariants as edge
+use Rattle.pp_rules.specs.declared.call.BuilderCall.{BuilderCall}
+use Rattle.pp_rules.specs.declared.call.BuilderCall.TheVariants as call
+use Rattle.pp_rules.specs.Names.{is_plain_byte}
 use Rattle.pp_graph.specs.Plan.{Plan}
 use Rattle.pp_text.specs.Tokens.{Token, Word, Quoted, token_text}
 use Rattle.pp_text.specs.Statements.{call_tokens, carried_tokens, arrow_tokens}

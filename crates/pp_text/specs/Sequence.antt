@@ -1,6 +1,6 @@
 -- Calls in a row.
 use Rattle.std.specs.Prelude.{List, [], ◌∷◌, ◌++◌}
-use Rattle.pp_graph.specs.declared.call.BuilderCall.{BuilderCall}
+use Rattle.pp_rules.specs.declared.call.BuilderCall.{BuilderCall}
 use Rattle.pp_graph.specs.Calls.{MayFollow}
 
 -- behind the calls before them, each call may follow those in front of it

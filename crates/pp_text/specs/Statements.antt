@@ -3,19 +3,19 @@ use Rattle.std.specs.Prelude.{◌≡◌, ◌≢◌, ℕ, ◌<◌, ◌^◌, List,
 use Rattle.std.specs.Prelude.{None as none}
 use Rattle.pp_bytes.specs.declared.fold.Fold.{Fold}
 use Rattle.pp_bytes.specs.declared.fold.Fold.TheVariants.{Same, Lower}
-use Rattle.pp_graph.specs.declared.graph.Width.{Width}
-use Rattle.pp_graph.specs.declared.graph.Width.TheVariants.{W8, W16, W32, W64}
-use Rattle.pp_graph.specs.declared.call.Constant.{Constant}
-use Rattle.pp_graph.specs.declared.call.Constant.TheVariants as constant
-use Rattle.pp_graph.specs.declared.call.NamedCode.{NamedCode}
-use Rattle.pp_graph.specs.declared.call.NamedCode.TheVariants as code
-use Rattle.pp_graph.specs.declared.call.NamedKind.{NamedKind}
-use Rattle.pp_graph.specs.declared.call.NamedKind.TheVariants as kind
-use Rattle.pp_graph.specs.declared.call.NamedEdge.{NamedEdge}
-use Rattle.pp_graph.specs.declared.call.NamedEdge.TheVariants as edge
-use Rattle.pp_graph.specs.declared.call.BuilderCall.{BuilderCall}
-use Rattle.pp_graph.specs.declared.call.BuilderCall.TheVariants as call
-use Rattle.pp_graph.specs.Names.{IsName}
+use Rattle.pp_rules.specs.declared.declaration.Width.{Width}
+use Rattle.pp_rules.specs.declared.declaration.Width.TheVariants.{W8, W16, W32, W64}
+use Rattle.pp_rules.specs.declared.call.Constant.{Constant}
+use Rattle.pp_rules.specs.declared.call.Constant.TheVariants as constant
+use Rattle.pp_rules.specs.declared.call.NamedCode.{NamedCode}
+use Rattle.pp_rules.specs.declared.call.NamedCode.TheVariants as code
+use Rattle.pp_rules.specs.declared.call.NamedKind.{NamedKind}
+use Rattle.pp_rules.specs.declared.call.NamedKind.TheVariants as kind
+use Rattle.pp_rules.specs.declared.call.NamedEdge.{NamedEdge}
+use Rattle.pp_rules.specs.declared.call.NamedEdge.TheVariants as edge
+use Rattle.pp_rules.specs.declared.call.BuilderCall.{BuilderCall}
+use Rattle.pp_rules.specs.declared.call.BuilderCall.TheVariants as call
+use Rattle.pp_rules.specs.Names.{IsName}
 use Rattle.pp_graph.specs.Calls.{HasForm}
 use Rattle.pp_text.specs.Tokens.{Token, Word, Quoted}
 use Rattle.pp_text.specs.Keys.{GiveKeys}

@@ -1,7 +1,7 @@
 -- Graph text: lines, and the calls that they tell.
 use Rattle.std.specs.Prelude.{◌≡◌, ◌≢◌, ℕ, suc, ◌+◌, ◌-◌, ◌≤◌, ◌<◌, List, [], ◌∷◌, ◌++◌, Option, Some, length, map, flat_map, take, All, ◌⊎◌, codes, unwrap_or, slice_get, max}
 use Rattle.std.specs.Prelude.{None as none}
-use Rattle.pp_graph.specs.declared.call.BuilderCall.{BuilderCall}
+use Rattle.pp_rules.specs.declared.call.BuilderCall.{BuilderCall}
 use Rattle.pp_text.specs.Tokens.{Token, Word, IsRow}
 use Rattle.pp_text.specs.Sequence.{Follow}
 use Rattle.pp_text.specs.Statements.{Statement, IsStatement, statement_calls}

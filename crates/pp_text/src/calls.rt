@@ -2,7 +2,7 @@
 ghost use Rattle.std.specs.Prelude.{◌≡◌, ◌+◌, ◌*◌, ◌<◌, ◌≤◌, ◌↔◌, ◌++◌, ◌∷◌, [], length, map, IsTrue, IfOk, OnOk};
 ghost use Rattle.pp_graph.specs.declared.builder.LastNode.TheVariants as last;
 ghost use Rattle.pp_graph.specs.Calls.{HasForm, MayFollow, TakesOtherwise, last_node as last_node_of};
-ghost use Rattle.pp_graph.specs.Names.{IsName};
+ghost use Rattle.pp_rules.specs.Names.{IsName};
 ghost use Rattle.pp_text.specs.Text.{Told, nothing};
 ghost use Rattle.pp_text.specs.steps.View.{token_of, tokens_of, call_of};
 ghost use Rattle.pp_text.specs.steps.Lines.{lines_of};

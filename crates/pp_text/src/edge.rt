@@ -1,7 +1,7 @@
 // Edges, from the tokens behind their first word.
 ghost use Rattle.std.specs.Prelude.{◌≡◌, ◌<◌, ◌++◌, ℕ, List, Option, IfSome, IsSomeAnd, MatchOption, length};
 ghost use Rattle.std.specs.List.{AllWithin, HoldsAt};
-ghost use Rattle.pp_graph.specs.Names.{IsName};
+ghost use Rattle.pp_rules.specs.Names.{IsName};
 ghost use Rattle.pp_text.specs.Statements.{arrow_tokens, carried_tokens, NumberFits};
 ghost use Rattle.pp_text.specs.steps.Shapes.{AreKeyTokens};
 ghost use Rattle.pp_text.specs.steps.View.{tokens_of};

@@ -1,12 +1,12 @@
 // What a node does, from the tokens behind its name.
 ghost use Rattle.std.specs.Prelude.{◌≡◌, ◌<◌, ◌^◌, ◌∷◌, [], ℕ, List, Option, Some, codes, IfSome, IsSomeAnd};
 ghost use Rattle.pp_bytes.specs.declared.fold.Fold.{Fold as SpecFold};
-ghost use Rattle.pp_graph.specs.declared.call.NamedCode.{NamedCode};
-ghost use Rattle.pp_graph.specs.declared.call.NamedKind.{NamedKind};
-ghost use Rattle.pp_graph.specs.declared.call.NamedKind.TheVariants as kind;
+ghost use Rattle.pp_rules.specs.declared.call.NamedCode.{NamedCode};
+ghost use Rattle.pp_rules.specs.declared.call.NamedKind.{NamedKind};
+ghost use Rattle.pp_rules.specs.declared.call.NamedKind.TheVariants as kind;
 ghost use Rattle.pp_graph.specs.Calls.{named_code, named_kind};
-ghost use Rattle.pp_graph.specs.declared.call.Constant.{Constant as SpecConstant};
-ghost use Rattle.pp_graph.specs.Names.{IsName, IsReason};
+ghost use Rattle.pp_rules.specs.declared.call.Constant.{Constant as SpecConstant};
+ghost use Rattle.pp_rules.specs.Names.{IsName, IsReason};
 ghost use Rattle.pp_text.specs.Tokens.{Word, Quoted};
 ghost use Rattle.pp_text.specs.Statements.{number_word, constant_word, most_tokens, fold_tokens, MostFits};
 ghost use Rattle.pp_text.specs.steps.View.{tokens_of};

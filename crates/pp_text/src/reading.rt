@@ -1,8 +1,8 @@
 // Reading a graph text.
 ghost use Rattle.std.specs.Prelude.{◌≡◌, ℕ, ◌+◌, ◌*◌, ◌≤◌, ◌<◌, ◌↔◌, List, Some, None, length, Err, IfOk, IsTrue, MatchResult, unwrap_or, slice_get};
 ghost use Rattle.pp_graph.specs.Built.{built};
-ghost use Rattle.pp_graph.specs.Rules.{KeepsRules};
-ghost use Rattle.pp_graph.specs.declared.fault.GraphRule.{GraphRule};
+ghost use Rattle.pp_rules.specs.Rules.{KeepsRules};
+ghost use Rattle.pp_rules.specs.declared.rules.GraphRule.{GraphRule};
 ghost use Rattle.pp_text.specs.declared.fault.TextFault.TheVariants as fault;
 ghost use Rattle.pp_text.specs.Text.{Told, BeginWithText, IsWrongAt, IsTooLong, limit, end_tokens};
 ghost use Rattle.pp_text.specs.Outcome.{Reads, Breaks, IsFaultAlone};

@@ -1,6 +1,6 @@
 // One statement, from its tokens.
 ghost use Rattle.std.specs.Prelude.{◌≡◌, ◌∷◌, Bool, Some, codes, if◌then◌else◌, IfSome, IsSomeAnd};
-ghost use Rattle.pp_graph.specs.declared.call.BuilderCall.{BuilderCall};
+ghost use Rattle.pp_rules.specs.declared.call.BuilderCall.{BuilderCall};
 ghost use Rattle.pp_text.specs.Tokens.{Word};
 ghost use Rattle.pp_text.specs.steps.Shapes.{Shape, IsShape};
 ghost use Rattle.pp_text.specs.Statements.{AreCall};

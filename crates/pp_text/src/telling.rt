@@ -2,7 +2,7 @@
 ghost use Rattle.std.specs.Prelude.{◌≡◌, []};
 ghost use Rattle.pp_graph.specs.Built.{built};
 ghost use Rattle.pp_graph.specs.Calls.{HaveForm};
-ghost use Rattle.pp_graph.specs.Rules.{KeepsRules};
+ghost use Rattle.pp_rules.specs.Rules.{KeepsRules};
 ghost use Rattle.pp_text.specs.Sequence.{Follow};
 ghost use Rattle.pp_text.specs.Telling.{calls_of};
 

@@ -1,7 +1,7 @@
 // What a token says by itself.
 ghost use Rattle.std.specs.Prelude.{◌≡◌, ◌<◌, ◌^◌, ◌↔◌, ℕ, List, Some, IfSome, IsSomeAnd, IsTrue};
-ghost use Rattle.pp_graph.specs.Names.{IsName, IsReason};
-ghost use Rattle.pp_graph.specs.declared.graph.Width.{Width as SpecWidth};
+ghost use Rattle.pp_rules.specs.Names.{IsName, IsReason};
+ghost use Rattle.pp_rules.specs.declared.declaration.Width.{Width as SpecWidth};
 ghost use Rattle.pp_text.specs.Tokens.{Word, Quoted};
 ghost use Rattle.pp_text.specs.Statements.{width_word, number_word};
 ghost use Rattle.pp_text.specs.steps.View.{token_of};

@@ -1,7 +1,7 @@
 -- The tokens of a node's kind by themselves.
 use Rattle.std.specs.Prelude.{◌≡◌, List}
-use Rattle.pp_graph.specs.declared.call.NamedCode.{NamedCode}
-use Rattle.pp_graph.specs.declared.call.NamedKind.{NamedKind}
+use Rattle.pp_rules.specs.declared.call.NamedCode.{NamedCode}
+use Rattle.pp_rules.specs.declared.call.NamedKind.{NamedKind}
 use Rattle.pp_graph.specs.Calls.{CodeHasForm, KindHasForm}
 use Rattle.pp_text.specs.Tokens.{Token}
 use Rattle.pp_text.specs.Statements.{code_tokens, kind_tokens, CodeFits, KindFits}

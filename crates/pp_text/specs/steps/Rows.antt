@@ -3,11 +3,11 @@ use Rattle.std.specs.Prelude.{◌≡◌, ℕ, ◌+◌, ◌*◌, ◌≤◌, ◌<�
 use Rattle.std.specs.FinSet as set
 use Rattle.std.specs.Ordering.{nat_cmp}
 use Rattle.pp_bytes.specs.Bytes.{bytes_of}
-use Rattle.pp_graph.specs.declared.call.NamedEdge.TheVariants as edge
-use Rattle.pp_graph.specs.declared.call.BuilderCall.{BuilderCall}
-use Rattle.pp_graph.specs.declared.call.BuilderCall.TheVariants as call
+use Rattle.pp_rules.specs.declared.call.NamedEdge.TheVariants as edge
+use Rattle.pp_rules.specs.declared.call.BuilderCall.{BuilderCall}
+use Rattle.pp_rules.specs.declared.call.BuilderCall.TheVariants as call
 use Rattle.pp_graph.specs.Calls.{MayFollow}
-use Rattle.pp_graph.specs.Rules.{IsFirstFault}
+use Rattle.pp_rules.specs.Rules.{IsFirstFault}
 use Rattle.pp_text.specs.declared.calls.KeyUse.{KeyUse}
 use Rattle.pp_text.specs.declared.calls.KeyUse.TheVariants as key_use
 use Rattle.pp_text.specs.declared.fault.TextFault.{TextFault}

@@ -1,7 +1,7 @@
 -- Statements before their keys are read.
 use Rattle.std.specs.Prelude.{◌≡◌, ◌≢◌, ℕ, List, [], ◌∷◌, ◌++◌, Option, codes}
-use Rattle.pp_graph.specs.declared.call.BuilderCall.{BuilderCall}
-use Rattle.pp_graph.specs.Names.{IsName}
+use Rattle.pp_rules.specs.declared.call.BuilderCall.{BuilderCall}
+use Rattle.pp_rules.specs.Names.{IsName}
 use Rattle.pp_text.specs.Tokens.{Token, Word}
 use Rattle.pp_text.specs.Statements.{AreCall, NumberFits, carried_tokens, arrow_tokens}
 

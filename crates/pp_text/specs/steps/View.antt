@@ -1,8 +1,8 @@
 -- The values of the reader, as the definitions see them.
 use Rattle.std.specs.Prelude.{ℕ, List, length, map}
-use Rattle.pp_graph.specs.declared.call.BuilderCall.{BuilderCall}
-use Rattle.pp_graph.specs.declared.call.BuilderCall.TheVariants as call
-use Rattle.pp_graph.specs.declared.call.NamedEdge.TheVariants as edge
+use Rattle.pp_rules.specs.declared.call.BuilderCall.{BuilderCall}
+use Rattle.pp_rules.specs.declared.call.BuilderCall.TheVariants as call
+use Rattle.pp_rules.specs.declared.call.NamedEdge.TheVariants as edge
 use Rattle.pp_graph.specs.Calls.{named_kind}
 use Rattle.pp_text.specs.declared.token.Token.{Token as Borrowed}
 use Rattle.pp_text.specs.declared.token.Token.TheVariants as borrowed

@@ -1,6 +1,6 @@
 // The lines of what a graph declares: properties, hosts, spans, the entry and the finish rule.
 ghost use Rattle.std.specs.Prelude.{◌≡◌, ◌++◌, codes, flat_map, map, if◌then◌else◌, OnOk};
-ghost use Rattle.pp_graph.specs.declared.call.BuilderCall.TheVariants as call;
+ghost use Rattle.pp_rules.specs.declared.call.BuilderCall.TheVariants as call;
 ghost use Rattle.pp_text.specs.Tokens.{token_text};
 ghost use Rattle.pp_text.specs.Statements.{width_word};
 ghost use Rattle.pp_text.specs.Telling.{node_name as node_name_of, prop_call, host_call, span_call, finish_calls};

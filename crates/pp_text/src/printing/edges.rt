@@ -1,6 +1,6 @@
 // The lines of the edges of a node.
 ghost use Rattle.std.specs.Prelude.{◌≡◌, ◌++◌, ◌∷◌, [], codes, flat_map, map, if◌then◌else◌, OnOk};
-ghost use Rattle.pp_graph.specs.declared.call.NamedKind.TheVariants as kind;
+ghost use Rattle.pp_rules.specs.declared.call.NamedKind.TheVariants as kind;
 ghost use Rattle.pp_text.specs.Statements.{carried_tokens};
 ghost use Rattle.pp_text.specs.Telling.{key_call, peek_call, answer_call, other_call, else_call, edge_calls};
 ghost use Rattle.pp_text.specs.Printed.{printed_line, behind_blank};

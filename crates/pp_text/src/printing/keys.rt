@@ -1,6 +1,6 @@
 // How a key is printed: bytes that stand for themselves as they are, all others by two hexadecimal digits.
 ghost use Rattle.std.specs.Prelude.{◌≡◌, ◌++◌, ◌<◌, flat_map, OnOk};
-ghost use Rattle.pp_graph.specs.Names.{is_plain_byte as is_plain_byte_of};
+ghost use Rattle.pp_rules.specs.Names.{is_plain_byte as is_plain_byte_of};
 ghost use Rattle.pp_text.specs.Printed.{printed_byte, printed_key, behind_blank, hex_digit as hex_digit_of};
 
 use std::alloc::AllocError;

@@ -1,7 +1,7 @@
 // The lines of nodes.
 ghost use Rattle.std.specs.Prelude.{◌≡◌, ◌++◌, ◌∷◌, [], Some, decimal, flat_map, OnOk};
-ghost use Rattle.pp_graph.specs.declared.call.NamedKind.TheVariants as kind;
-ghost use Rattle.pp_graph.specs.declared.call.NamedCode.TheVariants as code;
+ghost use Rattle.pp_rules.specs.declared.call.NamedKind.TheVariants as kind;
+ghost use Rattle.pp_rules.specs.declared.call.NamedCode.TheVariants as code;
 ghost use Rattle.pp_text.specs.Tokens.{Word, Quoted, token_text};
 ghost use Rattle.pp_text.specs.Statements.{constant_word, kind_tokens, code_tokens};
 ghost use Rattle.pp_text.specs.Telling.{prop_name as prop_name_of, node_calls, named_code, named_kind};

@@ -3,7 +3,7 @@ use Rattle.std.proofs.Common.{◌≡◌, List, ◌++◌, ◌∙◌, ap, sym, sub
 use Rattle.std.specs.Prelude.{OnOk}
 use Rattle.pp_bytes.specs.Bytes.{bytes_of}
 use Rattle.pp_bytes.proofs.ByteLemmas.{few_bytes}
-use Rattle.pp_graph.specs.declared.call.BuilderCall.{BuilderCall}
+use Rattle.pp_rules.specs.declared.call.BuilderCall.{BuilderCall}
 use Rattle.pp_text.specs.declared.calls.KeyUse.{KeyUse}
 use Rattle.pp_text.specs.steps.Rows.{edge_call, keys_of}
 use Rattle.pp_text.proofs.SetAddLemmas.{key_edges, peek_edges}

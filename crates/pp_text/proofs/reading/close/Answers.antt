@@ -1,8 +1,8 @@
 -- The builder's calls are those that were told.
 use Rattle.std.proofs.Common.{List, ap, subst, ◌∙◌}
-use Rattle.pp_graph.specs.declared.call.BuilderCall.{BuilderCall}
+use Rattle.pp_rules.specs.declared.call.BuilderCall.{BuilderCall}
 use Rattle.pp_graph.specs.Built.{built}
-use Rattle.pp_graph.specs.Rules.{KeepsRules}
+use Rattle.pp_rules.specs.Rules.{KeepsRules}
 use Rattle.pp_text.proofs.reading.close.Goals as goal
 
 pub returns-in-Ok : goal.returns-in-Ok

@@ -1,6 +1,7 @@
 use Rattle.std.proofs.Common.{◌≡◌, subst, IfOk, IfErr}
 use Rattle.pp_graph.specs.Built.{built}
-use Rattle.pp_graph.specs.Rules.{KeepsRules, IsFault}
+use Rattle.pp_rules.specs.Rules.{KeepsRules}
+use Rattle.pp_graph.specs.Faults.{IsFault}
 use Rattle.pp_graph.proofs.builder.GraphBuilder.close.Goals as goal
 
 pub returns-clause-ok : goal.returns-clause-ok

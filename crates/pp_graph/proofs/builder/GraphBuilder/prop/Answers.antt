@@ -1,5 +1,5 @@
 use Rattle.std.proofs.Common.{length, arith, ap}
-use Rattle.pp_graph.specs.Names.{IsName}
+use Rattle.pp_rules.specs.Names.{IsName}
 use Rattle.pp_graph.proofs.CallLemmas.{IsRecord-push}
 use Rattle.pp_graph.proofs.builder.GraphBuilder.prop.Goals as goal
 

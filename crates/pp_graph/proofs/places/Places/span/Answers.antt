@@ -1,6 +1,6 @@
 use Rattle.std.proofs.Common.{◌∙◌, ap}
-use Rattle.pp_graph.specs.declared.call.Sort.TheVariants as sort
-use Rattle.pp_graph.specs.Calls.{names_of}
+use Rattle.pp_rules.specs.declared.call.Sort.TheVariants as sort
+use Rattle.pp_rules.specs.Calls.{names_of}
 use Rattle.pp_graph.specs.Built.{place_of}
 use Rattle.pp_graph.proofs.PlaceLemmas.{spans-once, names-fit}
 use Rattle.pp_graph.proofs.places.Places.span.Goals as goal

@@ -1,7 +1,0 @@
-use Rattle.std.proofs.Common.{◌≡◌, ◌++◌, map}
-use Rattle.pp_bytes.specs.Bytes.{bytes_below}
-use Rattle.pp_graph.specs.Sets.{byte_call}
-use Rattle.pp_graph.proofs.calls.push_bytes.Given as goal
-
-abbrev pub invariant-loop-byte : goal.invariant-loop-byte
-invariant-loop-byte l = l.all.items ≡ l.fn.all.items ++ map (byte_call l.how l.target) (bytes_below l.bytes l.byte)

@@ -1,6 +1,0 @@
-use Rattle.std.proofs.Common.{◌≡◌, ◌++◌, take, drop}
-use Rattle.pp_graph.specs.Calls.{own_calls}
-use Rattle.pp_graph.proofs.edges.own_calls.Given as goal
-
-abbrev pub invariant-loop-i : goal.invariant-loop-i
-invariant-loop-i l = own_calls l.after ≡ take l.i l.after ++ own_calls (drop l.i l.after)

@@ -1,6 +1,0 @@
-use Rattle.std.proofs.Common.{refl}
-use Rattle.pp_graph.proofs.KeySetLemmas.{HasKeys-push}
-use Rattle.pp_graph.proofs.key_set.KeySet.add_longer.Goals as goal
-
-pub returns : goal.returns
-returns c = λ keys h. HasKeys-push c.args.self.now _ keys c.args.key.now c.requires refl c.add_first.ensures c.saturating_sub-self.ensures h

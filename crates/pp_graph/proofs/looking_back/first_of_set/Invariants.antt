@@ -1,5 +1,0 @@
-use Rattle.pp_graph.proofs.LookingBackLemmas.{AreBelow}
-use Rattle.pp_graph.proofs.looking_back.first_of_set.Given as goal
-
-abbrev pub invariant-loop-byte : goal.invariant-loop-byte
-invariant-loop-byte l = AreBelow l.rule l.how l.bytes l.fn.seen l.seen l.byte l.rank

@@ -1,6 +1,0 @@
-use Rattle.std.proofs.Common.{ℕ, ◌<◌}
-use Rattle.pp_graph.specs.Rules.{FailsAt}
-use Rattle.pp_graph.proofs.rules.first_by_itself.Given as goal
-
-abbrev pub invariant-loop-i : goal.invariant-loop-i
-invariant-loop-i l = (j : ℕ) → j < l.i → ¬ (FailsAt l.rule l.values j)

@@ -1,7 +1,0 @@
-use Rattle.std.proofs.Common.{◌≡◌, ◌++◌, drop}
-use Rattle.pp_graph.specs.Built.{tables_of, nodes_in}
-use Rattle.pp_graph.proofs.whole.nodes_of.Given as goal
-
-abbrev pub invariant-loop-i : goal.invariant-loop-i
-invariant-loop-i l =
-    l.nodes.items ++ nodes_in (tables_of l.places) (drop l.i l.calls) ≡ nodes_in (tables_of l.places) l.calls

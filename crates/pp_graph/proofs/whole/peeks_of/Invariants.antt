@@ -1,7 +1,0 @@
-use Rattle.std.proofs.Common.{◌≡◌, ◌++◌, filter_map, drop}
-use Rattle.pp_graph.specs.Built.{tables_of, peek_edge}
-use Rattle.pp_graph.proofs.whole.peeks_of.Given as goal
-
-abbrev pub invariant-loop-call : goal.invariant-loop-call
-invariant-loop-call l =
-    l.peeks.items ++ filter_map (peek_edge (tables_of l.places)) (drop l.call-index l.own) ≡ filter_map (peek_edge (tables_of l.places)) l.own

@@ -1,0 +1,9 @@
+pub mod Names
+pub mod Widths
+pub mod Calls
+pub mod Edges
+pub mod Declarations
+pub mod Keys
+pub mod Sets
+pub mod Rules
+pub mod steps
