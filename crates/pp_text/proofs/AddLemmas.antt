@@ -5,16 +5,16 @@ use Rattle.std.specs.Prelude.{Option, Some}
 use Rattle.pp_rules.specs.declared.call.NamedEdge.TheVariants as edge
 use Rattle.pp_rules.specs.declared.call.BuilderCall.{BuilderCall}
 use Rattle.pp_rules.specs.declared.call.BuilderCall.TheVariants as call
-use Rattle.pp_text.specs.declared.draft.KeyUse.TheVariants as key_use
+use Rattle.pp_text.specs.declared.calls.KeyUse.TheVariants as key_use
 use Rattle.pp_text.specs.declared.token.Token.{Token as Borrowed}
 use Rattle.pp_text.specs.Keys.{GiveKeys, GivesKeys}
 use Rattle.pp_text.specs.Sequence.{Follow}
-use Rattle.pp_text.specs.Shapes.{Shape, One, SomeKeys, SomePeeks, IsShape, AreKeyTokens, IsKeyToken}
+use Rattle.pp_text.specs.steps.Shapes.{Shape, One, SomeKeys, SomePeeks, IsShape, AreKeyTokens, IsKeyToken}
 use Rattle.pp_text.specs.Statements.{Statement, Says, Keys, Peeks, IsStatement, statement_calls}
-use Rattle.pp_text.specs.Steps.{SameEnds, IsAnswer, FitUse, FitsUse, edge_call, AddsCall, AddsTokens, AddsStatement}
+use Rattle.pp_text.specs.steps.Rows.{SameEnds, IsAnswer, FitUse, FitsUse, edge_call, AddsCall, AddsTokens, AddsStatement}
 use Rattle.pp_text.specs.Text.{Told, tell, Leads}
 use Rattle.pp_text.specs.Tokens.{Token, Word, Quoted, Bracketed}
-use Rattle.pp_text.specs.View.{tokens_of}
+use Rattle.pp_text.specs.steps.View.{tokens_of}
 use Rattle.pp_text.proofs.SetAddLemmas.{fit_bytes, peek_edges}
 
 -- a token that gives keys is no word

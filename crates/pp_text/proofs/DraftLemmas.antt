@@ -4,15 +4,15 @@ use Rattle.std.proofs.lemmas.List.{append-nil, map-append, drop_more, at_drop_al
 use Rattle.std.specs.FinSet as set
 use Rattle.std.specs.Ordering.{nat_cmp}
 use Rattle.pp_rules.specs.declared.call.BuilderCall.{BuilderCall}
-use Rattle.pp_text.specs.declared.draft.KeyUse.{KeyUse}
+use Rattle.pp_text.specs.declared.calls.KeyUse.{KeyUse}
 use Rattle.pp_text.specs.declared.token.Token.{Token as Borrowed}
-use Rattle.pp_text.specs.View.{token_of, tokens_of}
+use Rattle.pp_text.specs.steps.View.{token_of, tokens_of}
 use Rattle.pp_text.specs.Keys.{SpellsKey, SpellsSet}
-use Rattle.pp_text.specs.Reading.{HasBytes}
+use Rattle.pp_text.specs.steps.Reading.{HasBytes}
 use Rattle.pp_text.specs.Sequence.{Follow}
-use Rattle.pp_text.specs.Steps.{SameEnds, IsAnswer, FitUse, edge_call, AddsKeys, AddsToken, AddsTokens, keys_of}
+use Rattle.pp_text.specs.steps.Rows.{SameEnds, IsAnswer, FitUse, edge_call, AddsKeys, AddsToken, AddsTokens, keys_of}
 use Rattle.pp_text.specs.Text.{Told, tell}
-use Rattle.pp_text.proofs.SetKeys.{set_keys}
+use Rattle.pp_text.proofs.SetKeyLemmas.{set_keys}
 use Rattle.pp_text.specs.Tokens.{Token, Quoted, Bracketed}
 
 -- and so on

@@ -3,7 +3,7 @@ use Rattle.std.proofs.Common.{◌≡◌, ℕ, ◌≤◌, false, ◌&&◌, ◌==�
 use Rattle.std.proofs.lemmas.Bool.{both_ways, ne_eqb, false_from_ne_true, and_from, and_parts, le-leb, leb-true, cases_eq}
 use Rattle.pp_text.specs.declared.key.Place.TheVariants as place
 use Rattle.pp_text.specs.Keys.{written_text, byte_of, Item, One, Range, item_text, is_item, item_has}
-use Rattle.pp_text.specs.Places.{BeginsByte, BeginsItem, is_between, is_no_range}
+use Rattle.pp_text.specs.steps.Places.{BeginsByte, BeginsItem, is_between, is_no_range}
 
 -- one byte is a range from itself to itself
 pub is_between_same : (first b : ℕ) → (b == first) ≡ is_between first first b

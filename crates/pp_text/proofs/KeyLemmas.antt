@@ -6,7 +6,7 @@ use Rattle.std.specs.List.{list_all}
 use Rattle.pp_text.proofs.PushLemmas.{flat_map-push, list_all-push}
 use Rattle.pp_text.specs.declared.key.Place.TheVariants as place
 use Rattle.pp_text.specs.Keys.{Written, Raw, Escape, Hex, written_text, byte_of, is_key_byte, SpellsKey}
-use Rattle.pp_text.specs.Places.{BeginsByte}
+use Rattle.pp_text.specs.steps.Places.{BeginsByte}
 
 -- these bytes are written in front of the rest
 pub record HasRead (inside rest key : List ℕ) : Type 0 where

@@ -11,8 +11,9 @@ use Rattle.pp_rules.specs.declared.call.BuilderCall.{BuilderCall}
 use Rattle.pp_text.specs.declared.fault.TextFault.{TextFault}
 use Rattle.pp_text.specs.declared.fault.TextFault.TheVariants as fault
 use Rattle.pp_text.specs.Outcome.{Reads, Breaks, IsFaultAlone}
-use Rattle.pp_text.specs.Steps.{IsOnly, Verdict, Ended, WrongAt, Endless, Long, LinesAre, IsLineFault, IsText, IsGraphFault}
+use Rattle.pp_text.specs.steps.Rows.{IsOnly, Verdict, Ended, WrongAt, Endless, Long, LinesAre, IsLineFault, IsText, IsGraphFault}
 use Rattle.pp_text.specs.Text.{Told, BeginWithText, IsWrongAt, IsTooLong, limit, line_at}
+use Rattle.pp_text.specs.steps.Settled.{Settles}
 
 -- the rules in their order
 rule_at : ℕ → GraphRule
@@ -49,15 +50,6 @@ fault_unique calls r s i j f g =
     let h : IsFirstFault calls r j = subst (λ (t : GraphRule). IsFirstFault calls t j) (sym same) g in
     (same, call_unique calls r i j f h (cases_order i j))
 
--- what the bytes are, to each result
-abbrev pub Settles : List ℕ → Result (Plan × ℕ) TextFault → Type 0
-Settles bytes (Ok r) = (told : Told) × (last : ℕ) × (rest : List ℕ) × IsOnly (LinesAre limit 1 None bytes) (Ended told last rest) × Reads bytes told last rest r.0 r.1
-Settles bytes (Err (fault.Syntax line)) = IsOnly (LinesAre limit 1 None bytes) (WrongAt line) ⊎ ((last : ℕ) × IsOnly (LinesAre limit 1 None bytes) (Endless last) × (line ≡ max 1 last))
-Settles bytes (Err fault.TooLong) = IsOnly (LinesAre limit 1 None bytes) Long
-Settles bytes (Err (fault.Graph line rule)) =
-    (told : Told) × (last : ℕ) × (rest : List ℕ) × (call : ℕ) × IsOnly (LinesAre limit 1 None bytes) (Ended told last rest) × IsFirstFault told.calls rule call × (line ≡ line_at told last call)
-Settles bytes (Err fault.NoMemory) = Unit {0}
-
 pub line_settles : (bytes : List ℕ) (e : TextFault) → IsLineFault (LinesAre limit 1 None bytes) e → Settles bytes (Err e)
 line_settles bytes (fault.Syntax line) h = h
 line_settles bytes fault.TooLong h = h
@@ -78,11 +70,7 @@ pub settles_graph : (bytes : List ℕ) (r : Result (Plan × ℕ) TextFault) → 
 settles_graph bytes (Ok r) h = (h.0, h.1, h.2, h.4)
 settles_graph bytes (Err e) h = tt
 
--- a wrong line is told of once
-no_wrong : (bytes : List ℕ) (v : Verdict) (line : ℕ) → IsOnly (LinesAre limit 1 None bytes) v → IsWrongAt bytes line → (v ≡ WrongAt line) ⊎ ((last : ℕ) × (v ≡ Endless last) × (line ≡ max 1 last))
-no_wrong bytes v line only (inl w) = inl (only.1 (WrongAt line) w)
-no_wrong bytes v line only (inr w) = inr (w.0, only.1 (Endless w.0) w.1, w.2)
-
+-- each clause on a result, from what the bytes are
 pub settles_syntax : (bytes : List ℕ) (r : Result (Plan × ℕ) TextFault) → Settles bytes r → (line : ℕ) → r ≡ Err (fault.Syntax line) → IsWrongAt bytes line
 settles_syntax bytes (Ok r) h line e = absurd cc
 settles_syntax bytes (Err (fault.Syntax other)) (inl h) line e =

@@ -6,8 +6,8 @@ use Rattle.std.proofs.lemmas.Option.{unwrap_or-slice_get}
 use Rattle.std.proofs.lemmas.Simd.{splat_is_map}
 use Rattle.std.specs.Prelude.{unwrap_or, slice_get}
 use Rattle.pp_rules.specs.declared.call.BuilderCall.{BuilderCall}
-use Rattle.pp_text.specs.declared.draft.Run.{Run}
-use Rattle.pp_text.specs.Lines.{lines_of}
+use Rattle.pp_text.specs.declared.calls.Run.{Run}
+use Rattle.pp_text.specs.steps.Lines.{lines_of}
 
 -- the lines of a run
 abbrev of_run : Run → List ℕ

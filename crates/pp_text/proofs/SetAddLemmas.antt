@@ -10,10 +10,10 @@ use Rattle.pp_rules.specs.declared.call.NamedEdge.TheVariants as edge
 use Rattle.pp_rules.specs.declared.call.BuilderCall.{BuilderCall}
 use Rattle.pp_rules.specs.declared.call.BuilderCall.TheVariants as call
 use Rattle.pp_graph.specs.Calls.{MayFollow, last_node, last_after}
-use Rattle.pp_text.specs.declared.draft.KeyUse.{KeyUse}
-use Rattle.pp_text.specs.declared.draft.KeyUse.TheVariants as key_use
+use Rattle.pp_text.specs.declared.calls.KeyUse.{KeyUse}
+use Rattle.pp_text.specs.declared.calls.KeyUse.TheVariants as key_use
 use Rattle.pp_text.specs.Sequence.{Follow}
-use Rattle.pp_text.specs.Steps.{IsAnswer, FitUse, edge_call, AddsKeys}
+use Rattle.pp_text.specs.steps.Rows.{IsAnswer, FitUse, edge_call, AddsKeys}
 use Rattle.pp_text.specs.Text.{Told}
 use Rattle.pp_text.proofs.DraftLemmas.{AddsKeys-none, told_is}
 use Rattle.pp_text.proofs.RunLemmas.{lines-told}

@@ -9,7 +9,7 @@ use Rattle.std.specs.List.{list_any, range_with_len}
 use Rattle.std.specs.Ordering.{nat_cmp}
 use Rattle.std.specs.Cmp.{unsigned_tied, both_ways}
 use Rattle.std.specs.FinSet.{FinSet, contains, insert, contains-insert}
-use Rattle.pp_text.specs.Places.{is_between}
+use Rattle.pp_text.specs.steps.Places.{is_between}
 
 -- the set has what it had at the start, and the bytes from the first on that are below this one
 abbrev pub HasBelow : FinSet nat_cmp → FinSet nat_cmp → ℕ → ℕ → Type 0

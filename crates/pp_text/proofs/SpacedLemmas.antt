@@ -4,8 +4,8 @@ use Rattle.std.proofs.lemmas.Bool.{and_parts, and_from, or_left, false≢true, f
 use Rattle.std.proofs.lemmas.List.{append-nil}
 use Rattle.std.specs.List.{list_all}
 use Rattle.pp_text.specs.Tokens.{Token, Word, Quoted, Bracketed, is_token, token_text, is_blank, is_word_byte, is_apart, BeginsWith, IsSpaced, Behind, GoesOn, Ends, IsBehind, BeginsRow}
-use Rattle.pp_text.specs.Reading.{ends_token}
-use Rattle.pp_text.specs.Lexing.{begins_with, IsBehindBlanks}
+use Rattle.pp_text.specs.steps.Reading.{ends_token}
+use Rattle.pp_text.specs.steps.Lexing.{begins_with, IsBehindBlanks}
 use Rattle.pp_text.proofs.TokenLemmas.{at_byte, ends_cases}
 
 -- a token with what follows it begins with a byte that ends no token

@@ -8,8 +8,8 @@ use Rattle.std.specs.List.{list_all, list_any}
 use Rattle.std.specs.Ordering.{nat_cmp}
 use Rattle.std.specs.FinSet.{FinSet, contains, empty, contains-empty}
 use Rattle.pp_text.specs.Keys.{Written, Raw, Escape, Hex, written_text, byte_of, is_set_byte, Item, One, Range, item_text, is_item, item_has, set_bytes, SpellsSet}
-use Rattle.pp_text.specs.Places.{BeginsItem, is_between, is_no_range}
-use Rattle.pp_text.specs.Reading.{HasBytes}
+use Rattle.pp_text.specs.steps.Places.{BeginsItem, is_between, is_no_range}
+use Rattle.pp_text.specs.steps.Reading.{HasBytes}
 use Rattle.pp_text.proofs.ItemLemmas.{is_between_same}
 use Rattle.pp_text.proofs.KeyLemmas.{some_text}
 use Rattle.pp_text.proofs.PushLemmas.{flat_map-push, list_all-push}

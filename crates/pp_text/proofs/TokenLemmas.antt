@@ -9,8 +9,8 @@ use Rattle.std.specs.Bool.{then_some}
 use Rattle.std.specs.Prelude.{Option, IfSome, IsSomeAnd}
 use Rattle.std.proofs.lemmas.List.Folds.{length-prefix_len}
 use Rattle.pp_text.specs.Tokens.{is_inside, is_printed, is_word, is_word_byte, is_blank}
-use Rattle.pp_text.specs.Reading.{ends_token}
-use Rattle.pp_text.specs.Lexing.{begins_with}
+use Rattle.pp_text.specs.steps.Reading.{ends_token}
+use Rattle.pp_text.specs.steps.Lexing.{begins_with}
 
 pub and_first : (p x : Bool) → p ≡ true → (p && x) ≡ x
 and_first true x e = refl

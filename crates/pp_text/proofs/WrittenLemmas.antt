@@ -6,7 +6,7 @@ use Rattle.std.proofs.lemmas.List.{take_rest}
 use Rattle.pp_text.specs.declared.key.Place.{Place}
 use Rattle.pp_text.specs.declared.key.Place.TheVariants as place
 use Rattle.pp_text.specs.Keys.{Written, Raw, Escape, Hex, written_text, byte_of, escaped_byte, is_hex}
-use Rattle.pp_text.specs.Places.{BeginsByte, is_byte_in}
+use Rattle.pp_text.specs.steps.Places.{BeginsByte, is_byte_in}
 
 -- equal texts that are not empty have equal first bytes and equal rests
 pub same_first : (a b : ℕ) (xs ys : List ℕ) → a ∷ xs ≡ b ∷ ys → a ≡ b

@@ -6,13 +6,5 @@ pub mod Statements
 pub mod Text
 pub mod Printed
 pub mod Printable
-pub mod Shapes
-pub mod View
-pub mod Reading
 pub mod Outcome
-pub mod Lexing
-pub mod Places
-pub mod Kinds
-pub mod FirstWord
-pub mod Steps
-pub mod Lines
+pub mod steps

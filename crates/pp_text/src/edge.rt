@@ -3,9 +3,9 @@ ghost use Rattle.std.specs.Prelude.{◌≡◌, ◌<◌, ◌++◌, ℕ, List, Opt
 ghost use Rattle.std.specs.List.{AllWithin, HoldsAt};
 ghost use Rattle.pp_rules.specs.Names.{IsName};
 ghost use Rattle.pp_text.specs.Statements.{arrow_tokens, carried_tokens, NumberFits};
-ghost use Rattle.pp_text.specs.Shapes.{AreKeyTokens};
-ghost use Rattle.pp_text.specs.View.{tokens_of};
-ghost use Rattle.pp_text.specs.FirstWord.{StartsWithWord, IsKeyIn, IsWordIn};
+ghost use Rattle.pp_text.specs.steps.Shapes.{AreKeyTokens};
+ghost use Rattle.pp_text.specs.steps.View.{tokens_of};
+ghost use Rattle.pp_text.specs.steps.FirstWord.{StartsWithWord, IsKeyIn, IsWordIn};
 
 use crate::token::Token;
 use crate::word::{name_in, small_number_in};

@@ -4,8 +4,8 @@ ghost use Rattle.std.specs.Char.{digit_value};
 ghost use Rattle.std.specs.FinSet as set;
 ghost use Rattle.std.specs.Option.{SomeIff};
 ghost use Rattle.pp_text.specs.Keys.{Raw, Escape, SpellsKey, SpellsSet, escaped_byte, is_hex};
-ghost use Rattle.pp_text.specs.Places.{BeginsByte, BeginsItem, is_between, is_byte_in, is_no_range};
-ghost use Rattle.pp_text.specs.Reading.{HasBytes};
+ghost use Rattle.pp_text.specs.steps.Places.{BeginsByte, BeginsItem, is_between, is_byte_in, is_no_range};
+ghost use Rattle.pp_text.specs.steps.Reading.{HasBytes};
 
 use pp_bytes::ByteSet;
 use std::alloc::{AllocError, Global};

@@ -2,6 +2,7 @@
 #![tactic(auto)]
 
 mod back;
+mod calls;
 mod draft;
 mod edge;
 mod fault;
@@ -13,8 +14,6 @@ mod reading;
 mod row;
 mod statement;
 mod telling;
-#[cfg(test)]
-mod tests;
 mod token;
 mod word;
 

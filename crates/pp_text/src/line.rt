@@ -1,7 +1,7 @@
 // Lines.
 ghost use Rattle.std.specs.Prelude.{◌<◌, IfSome, IsNone, length, take};
 ghost use Rattle.pp_text.specs.Text.{BeginWithLine, IsWithin, IsOneLine, IsRowOf};
-ghost use Rattle.pp_text.specs.View.{line_of};
+ghost use Rattle.pp_text.specs.steps.View.{line_of};
 
 /// A line. Its row is what stands in front of its LF, without the CR that may stand there.
 #[derive(Clone, Copy)]

@@ -9,8 +9,8 @@ ghost use Rattle.pp_rules.specs.declared.call.Constant.{Constant as SpecConstant
 ghost use Rattle.pp_rules.specs.Names.{IsName, IsReason};
 ghost use Rattle.pp_text.specs.Tokens.{Word, Quoted};
 ghost use Rattle.pp_text.specs.Statements.{number_word, constant_word, most_tokens, fold_tokens, MostFits};
-ghost use Rattle.pp_text.specs.View.{tokens_of};
-ghost use Rattle.pp_text.specs.Kinds.{AreCode, AreKind};
+ghost use Rattle.pp_text.specs.steps.View.{tokens_of};
+ghost use Rattle.pp_text.specs.steps.Kinds.{AreCode, AreKind};
 
 use crate::token::Token;
 use crate::word::{name_in, number_in, reason_in, small_number_in};

@@ -6,16 +6,19 @@ ghost use Rattle.pp_rules.specs.declared.rules.GraphRule.{GraphRule};
 ghost use Rattle.pp_text.specs.declared.fault.TextFault.TheVariants as fault;
 ghost use Rattle.pp_text.specs.Text.{Told, BeginWithText, IsWrongAt, IsTooLong, limit, end_tokens};
 ghost use Rattle.pp_text.specs.Outcome.{Reads, Breaks, IsFaultAlone};
-ghost use Rattle.pp_text.specs.Reading.{count_told};
-ghost use Rattle.pp_text.specs.Lines.{lines_of};
-ghost use Rattle.pp_text.specs.Steps.{IsRowAnswer, RowIs, LastIs, IsLineAnswer, IsLineFault, LinesAre, IsText, IsGraphFault};
-ghost use Rattle.pp_text.specs.View.{tokens_of};
+ghost use Rattle.pp_text.specs.steps.Reading.{count_told};
+ghost use Rattle.pp_text.specs.steps.Lines.{lines_of};
+ghost use Rattle.pp_text.specs.steps.Settled.{Settles};
+ghost use Rattle.pp_text.specs.steps.Rows.{IsRowAnswer, RowIs, LastIs, IsLineAnswer, IsLineFault, LinesAre, IsText, IsGraphFault};
+ghost use Rattle.pp_text.specs.steps.View.{tokens_of};
 
-use crate::draft::{Draft, Run, is_word};
+use crate::calls::Run;
+use crate::draft::Draft;
 use crate::fault::TextFault;
 use crate::line::{Line, first_line};
 use crate::row::{Behind, read_tokens};
 use crate::token::Token;
+use crate::word::is_word;
 use pp_graph::{Graph, GraphFault, NoMemory};
 use std::alloc::Global;
 
@@ -38,6 +41,13 @@ pub fn read_graph(alloc: Global, bytes: &[u8]) -> Result<(Graph, usize), TextFau
     ensures syntax_only { (line : ℕ) → IsWrongAt bytes.now line → IsFaultAlone result (fault.Syntax line) }
     ensures too_long_only { IsTooLong bytes.now → IsFaultAlone result fault.TooLong }
     ensures rule_only { (line : ℕ) (rule : GraphRule) → Breaks bytes.now line rule → IsFaultAlone result (fault.Graph line rule) }
+{
+    read_text(alloc, bytes)
+}
+
+// The same, said once for all results.
+fn read_text(alloc: Global, bytes: &[u8]) -> Result<(Graph, usize), TextFault>
+    ensures { Settles bytes.now result }
 {
     let mut draft = Draft::new(alloc);
     let (last, used) = read_lines(alloc, &mut draft, bytes)?;

@@ -1,9 +1,9 @@
 // The statements of a row, which is a line without its end.
 ghost use Rattle.std.specs.Prelude.{◌≡◌, ◌+◌, ◌≤◌, List, IfOk, IfSome, IsSomeAnd, length};
 ghost use Rattle.std.specs.List.{prefix_len};
-ghost use Rattle.pp_text.specs.Lexing.{IsBehindBlanks};
+ghost use Rattle.pp_text.specs.steps.Lexing.{IsBehindBlanks};
 ghost use Rattle.pp_text.specs.Tokens.{Token as SpecToken, Behind as SpecBehind, BeginsRow, IsBehind, is_blank};
-ghost use Rattle.pp_text.specs.View.{tokens_of, behind_of, length_behind};
+ghost use Rattle.pp_text.specs.steps.View.{tokens_of, behind_of, length_behind};
 
 use crate::token::{Token, token_at};
 use std::alloc::AllocError;

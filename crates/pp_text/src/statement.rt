@@ -2,9 +2,9 @@
 ghost use Rattle.std.specs.Prelude.{◌≡◌, ◌∷◌, Bool, Some, codes, if◌then◌else◌, IfSome, IsSomeAnd};
 ghost use Rattle.pp_rules.specs.declared.call.BuilderCall.{BuilderCall};
 ghost use Rattle.pp_text.specs.Tokens.{Word};
-ghost use Rattle.pp_text.specs.Shapes.{Shape, IsShape};
+ghost use Rattle.pp_text.specs.steps.Shapes.{Shape, IsShape};
 ghost use Rattle.pp_text.specs.Statements.{AreCall};
-ghost use Rattle.pp_text.specs.View.{token_of, tokens_of, call_of, shape_of};
+ghost use Rattle.pp_text.specs.steps.View.{token_of, tokens_of, call_of, shape_of};
 
 use crate::edge::{at_word, number_and_target, target_in};
 use crate::node::kind_in;

@@ -3,8 +3,8 @@ ghost use Rattle.std.specs.Prelude.{◌≡◌, ◌∷◌, ◌++◌, ℕ, List, I
 ghost use Rattle.std.specs.List.{prefix_len};
 ghost use Rattle.pp_text.specs.Tokens.{Token as SpecToken, is_token, token_text, is_inside, is_word};
 ghost use Rattle.pp_text.specs.Tokens.{is_printed as is_printed_byte, is_word_byte as is_word_byte_of};
-ghost use Rattle.pp_text.specs.Reading.{ends_token as ends_token_of};
-ghost use Rattle.pp_text.specs.View.{token_of};
+ghost use Rattle.pp_text.specs.steps.Reading.{ends_token as ends_token_of};
+ghost use Rattle.pp_text.specs.steps.View.{token_of};
 
 /// A token as it is written: a word; what stands between double quotes; what stands between brackets.
 #[derive(Clone, Copy)]

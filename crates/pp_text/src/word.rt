@@ -1,10 +1,10 @@
 // What a token says by itself.
-ghost use Rattle.std.specs.Prelude.{◌≡◌, ◌<◌, ◌^◌, ℕ, List, Some, IfSome, IsSomeAnd};
+ghost use Rattle.std.specs.Prelude.{◌≡◌, ◌<◌, ◌^◌, ◌↔◌, ℕ, List, Some, IfSome, IsSomeAnd, IsTrue};
 ghost use Rattle.pp_rules.specs.Names.{IsName, IsReason};
 ghost use Rattle.pp_rules.specs.declared.declaration.Width.{Width as SpecWidth};
 ghost use Rattle.pp_text.specs.Tokens.{Word, Quoted};
 ghost use Rattle.pp_text.specs.Statements.{width_word, number_word};
-ghost use Rattle.pp_text.specs.View.{token_of};
+ghost use Rattle.pp_text.specs.steps.View.{token_of};
 
 use crate::token::Token;
 use pp_bytes::read_number;
@@ -86,5 +86,15 @@ pub(crate) fn width_in(token: &Token<'_>) -> Option<Width>
         Token::Word(b"u32") => Some(Width::W32),
         Token::Word(b"u64") => Some(Width::W64),
         _ => None,
+    }
+}
+
+/// Whether a token is this word.
+pub(crate) fn is_word(token: Token<'_>, word: &[u8]) -> bool
+    ensures { IsTrue result ↔ (token_of token.entry ≡ Word word.now) }
+{
+    match token {
+        Token::Word(bytes) => bytes == word,
+        Token::Quoted(_) | Token::Bracketed(_) => false,
     }
 }

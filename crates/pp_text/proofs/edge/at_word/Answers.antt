@@ -1,9 +1,9 @@
 use Rattle.std.proofs.Common.{List, take, drop, sym, ap, ◌∙◌, subst}
 use Rattle.pp_text.specs.declared.token.Token.{Token as Borrowed}
-use Rattle.pp_text.specs.Shapes.{AreKeyTokens}
-use Rattle.pp_text.specs.View.{tokens_of}
-use Rattle.pp_text.specs.FirstWord.{StartsWithWord}
-use Rattle.pp_text.proofs.KeyTokens.{keys-in-front, word-next}
+use Rattle.pp_text.specs.steps.Shapes.{AreKeyTokens}
+use Rattle.pp_text.specs.steps.View.{tokens_of}
+use Rattle.pp_text.specs.steps.FirstWord.{StartsWithWord}
+use Rattle.pp_text.proofs.KeyTokenLemmas.{keys-in-front, word-next}
 use Rattle.pp_text.proofs.edge.at_word.Goals as goal
 
 pub returns-clause-keys : goal.returns-clause-keys

@@ -1,6 +1,6 @@
 use Rattle.std.proofs.Common.{List, ℕ, arith, inl, inr, ◌∙◌, sym, subst}
 use Rattle.pp_text.specs.declared.key.Place.TheVariants as place
-use Rattle.pp_text.specs.Places.{BeginsByte}
+use Rattle.pp_text.specs.steps.Places.{BeginsByte}
 use Rattle.pp_text.proofs.WrittenLemmas.{same_behind}
 use Rattle.pp_text.proofs.ItemLemmas.{one_item, range_item, item_reading, no_dash}
 use Rattle.pp_text.proofs.key.item_at.Goals as goal

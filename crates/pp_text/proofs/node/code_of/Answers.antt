@@ -1,7 +1,7 @@
 use Rattle.std.proofs.Common.{◌≡◌, refl, codes, arith, rules}
 use Rattle.std.proofs.lemmas.Slice.Eq.{text_from_reads}
-use Rattle.pp_text.specs.View.{tokens_of}
-use Rattle.pp_text.proofs.FirstWords.{IsNoCode, none-some, no-code}
+use Rattle.pp_text.specs.steps.View.{tokens_of}
+use Rattle.pp_text.proofs.FirstWordLemmas.{IsNoCode, none-some, no-code}
 use Rattle.pp_text.proofs.node.code_of.Goals as goal
 
 pub returns-in-store-clause-found : goal.returns-in-store-clause-found

@@ -1,8 +1,8 @@
 use Rattle.std.proofs.Common.{◌≡◌, codes, arith, rules, IsSomeAnd}
 use Rattle.std.proofs.lemmas.Slice.Eq.{text_from_reads}
 use Rattle.pp_graph.specs.Calls.{named_kind}
-use Rattle.pp_text.specs.View.{tokens_of}
-use Rattle.pp_text.proofs.FirstWords.{IsNoKind, kind-runs}
+use Rattle.pp_text.specs.steps.View.{tokens_of}
+use Rattle.pp_text.proofs.FirstWordLemmas.{IsNoKind, kind-runs}
 use Rattle.pp_text.proofs.node.kind_of.Goals as goal
 
 pub returns-in_default-clause-only : goal.returns-in_default-clause-only

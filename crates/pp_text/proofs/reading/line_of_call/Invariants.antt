@@ -1,6 +1,6 @@
 -- The calls of the runs so far and those left give the number.
 use Rattle.std.proofs.Common.{◌≡◌, ◌+◌, length, take}
-use Rattle.pp_text.specs.Lines.{lines_of}
+use Rattle.pp_text.specs.steps.Lines.{lines_of}
 use Rattle.pp_text.proofs.reading.line_of_call.Given as goal
 
 abbrev pub invariant-loop-run : goal.invariant-loop-run

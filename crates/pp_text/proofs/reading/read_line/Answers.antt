@@ -1,8 +1,8 @@
 -- One line.
 use Rattle.std.proofs.Common.{◌+◌, ◌≤◌, length, refl, inl}
 use Rattle.pp_text.specs.Text.{Whole, Open, BeginWithLine}
-use Rattle.pp_text.specs.Steps.{RowIs}
-use Rattle.pp_text.proofs.LineSteps.{long_only, row_leads, row_ends, line_leads, line_ends, line_wrong, whole_wrong, open_wrong}
+use Rattle.pp_text.specs.steps.Rows.{RowIs}
+use Rattle.pp_text.proofs.LineStepLemmas.{long_only, row_leads, row_ends, line_leads, line_ends, line_wrong, whole_wrong, open_wrong}
 use Rattle.pp_text.proofs.reading.read_line.Goals as goal
 
 pub returns-in-None : goal.returns-in-None

@@ -1,9 +1,9 @@
 -- Line by line.
 use Rattle.std.proofs.Common.{◌≡◌, ◌-◌, length, refl, arith, inr}
 use Rattle.std.proofs.lemmas.Result.{err_from_is_err_and}
-use Rattle.pp_text.specs.Steps.{LinesAre, GoesOn, EndsHere}
+use Rattle.pp_text.specs.steps.Rows.{LinesAre, GoesOn, EndsHere}
 use Rattle.pp_text.specs.Text.{limit}
-use Rattle.pp_text.proofs.LineSteps.{fault_same, reading_goes_on, reading_ends, reading_stops}
+use Rattle.pp_text.proofs.LineStepLemmas.{fault_same, reading_goes_on, reading_ends, reading_stops}
 use Rattle.pp_text.proofs.reading.read_lines.Goals as goal
 
 pub returns-in_err-behind : goal.returns-in_err-behind

@@ -1,6 +1,6 @@
 -- What is left decides as the whole does.
 use Rattle.std.proofs.Common.{length}
-use Rattle.pp_text.proofs.LineSteps.{IsReading}
+use Rattle.pp_text.proofs.LineStepLemmas.{IsReading}
 use Rattle.pp_text.proofs.reading.read_lines.Given as goal
 
 abbrev pub invariant-loop-rest : goal.invariant-loop-rest

@@ -1,11 +1,11 @@
 -- A row, statement by statement.
 use Rattle.std.proofs.Common.{ap, arith}
 use Rattle.std.proofs.lemmas.Result.{IfOk-weaker}
-use Rattle.pp_text.specs.Steps.{IsRowAnswer, RowIs, LastIs}
+use Rattle.pp_text.specs.steps.Rows.{IsRowAnswer, RowIs, LastIs}
 use Rattle.pp_text.specs.Tokens.{GoesOn, Ends}
-use Rattle.pp_text.specs.View.{tokens_of, behind_of, length_behind}
+use Rattle.pp_text.specs.steps.View.{tokens_of, behind_of, length_behind}
 use Rattle.pp_text.proofs.DraftLemmas.{SameEnds-trans}
-use Rattle.pp_text.proofs.RowSteps.{row_answer, row_next, row_none, row_stop, row_last, left_behind, begins_alone, begins_none, leads_alone, leads_none}
+use Rattle.pp_text.proofs.RowStepLemmas.{row_answer, row_next, row_none, row_stop, row_last, left_behind, begins_alone, begins_none, leads_alone, leads_none}
 use Rattle.pp_text.proofs.reading.read_row.Goals as goal
 
 pub returns-in_default-behind-clause-answer : goal.returns-in_default-behind-clause-answer

@@ -1,6 +1,6 @@
 use Rattle.std.proofs.Common.{◌+◌, ◌*◌, ◌≤◌, length}
-use Rattle.pp_text.specs.Reading.{count_told}
-use Rattle.pp_text.specs.Steps.{SameEnds, RowIs}
+use Rattle.pp_text.specs.steps.Reading.{count_told}
+use Rattle.pp_text.specs.steps.Rows.{SameEnds, RowIs}
 use Rattle.pp_text.proofs.reading.read_row.Given as goal
 
 abbrev pub invariant-loop-behind : goal.invariant-loop-behind

@@ -3,7 +3,7 @@ use Rattle.std.proofs.Common.{◌≡◌, ◌∷◌, ◌++◌, [], IsSomeAnd, ap,
 use Rattle.std.proofs.lemmas.Option.{IfSome_then}
 use Rattle.std.proofs.lemmas.List.{map-append}
 use Rattle.std.specs.Prelude.{Option, Some, None}
-use Rattle.pp_text.specs.View.{token_of, tokens_of, behind_of}
+use Rattle.pp_text.specs.steps.View.{token_of, tokens_of, behind_of}
 use Rattle.pp_text.proofs.SpacedLemmas.{IsReading, reading_begins, reading_more, reading_found, reading_only}
 use Rattle.pp_text.proofs.row.read_tokens.Goals as goal
 

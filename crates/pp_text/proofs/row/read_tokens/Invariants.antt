@@ -1,6 +1,6 @@
 -- The tokens are those in front of the rest, which gets shorter.
 use Rattle.std.proofs.Common.{length}
-use Rattle.pp_text.specs.View.{tokens_of}
+use Rattle.pp_text.specs.steps.View.{tokens_of}
 use Rattle.pp_text.proofs.SpacedLemmas.{IsReading}
 use Rattle.pp_text.proofs.row.read_tokens.Given as goal
 

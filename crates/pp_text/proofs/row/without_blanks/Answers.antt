@@ -3,7 +3,7 @@ use Rattle.std.proofs.Common.{◌++◌, take, drop, sym, ap, ◌∙◌, take-app
 use Rattle.std.proofs.lemmas.List.{take_rest}
 use Rattle.std.specs.List.{list_all}
 use Rattle.pp_text.specs.Tokens.{is_blank}
-use Rattle.pp_text.specs.Lexing.{begins_with}
+use Rattle.pp_text.specs.steps.Lexing.{begins_with}
 use Rattle.pp_text.proofs.TokenLemmas.{run_passes, run_stops}
 use Rattle.pp_text.proofs.row.without_blanks.Goals as goal
 

@@ -1,7 +1,7 @@
 use Rattle.std.proofs.Common.{◌≡◌, codes, arith, rules}
 use Rattle.std.proofs.lemmas.Slice.Eq.{text_from_reads}
-use Rattle.pp_text.specs.View.{tokens_of}
-use Rattle.pp_text.proofs.FirstWords.{IsNoCall, no-call}
+use Rattle.pp_text.specs.steps.View.{tokens_of}
+use Rattle.pp_text.proofs.FirstWordLemmas.{IsNoCall, no-call}
 use Rattle.pp_text.proofs.statement.call_in.Goals as goal
 
 pub returns-in_default-clause-only : goal.returns-in_default-clause-only

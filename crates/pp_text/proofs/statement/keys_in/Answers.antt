@@ -1,7 +1,7 @@
 use Rattle.std.proofs.Common.{ap, sym, ◌∙◌}
-use Rattle.pp_text.specs.Shapes.{SomeKeys}
-use Rattle.pp_text.specs.View.{tokens_of}
-use Rattle.pp_text.proofs.KeyTokens.{on-parts, none-of}
+use Rattle.pp_text.specs.steps.Shapes.{SomeKeys}
+use Rattle.pp_text.specs.steps.View.{tokens_of}
+use Rattle.pp_text.proofs.KeyTokenLemmas.{on-parts, none-of}
 use Rattle.pp_text.proofs.statement.keys_in.Goals as goal
 
 pub returns-then-is_empty-clause-only : goal.returns-then-is_empty-clause-only

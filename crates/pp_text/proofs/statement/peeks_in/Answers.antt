@@ -1,7 +1,7 @@
 use Rattle.std.proofs.Common.{ap, sym, ◌∙◌}
-use Rattle.pp_text.specs.Shapes.{SomePeeks}
-use Rattle.pp_text.specs.View.{tokens_of}
-use Rattle.pp_text.proofs.KeyTokens.{peek-parts, none-of}
+use Rattle.pp_text.specs.steps.Shapes.{SomePeeks}
+use Rattle.pp_text.specs.steps.View.{tokens_of}
+use Rattle.pp_text.proofs.KeyTokenLemmas.{peek-parts, none-of}
 use Rattle.pp_text.proofs.statement.peeks_in.Goals as goal
 
 pub returns-then-is_empty-clause-only : goal.returns-then-is_empty-clause-only

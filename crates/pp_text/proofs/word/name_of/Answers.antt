@@ -1,4 +1,4 @@
-use Rattle.pp_text.proofs.WordTexts.{text-of, name-utf8}
+use Rattle.pp_text.proofs.WordTextLemmas.{text-of, name-utf8}
 use Rattle.pp_text.proofs.word.name_of.Goals as goal
 
 pub returns-then-is_name-clause-only : goal.returns-then-is_name-clause-only

@@ -1,4 +1,4 @@
-use Rattle.pp_text.proofs.WordTexts.{word-only}
+use Rattle.pp_text.proofs.WordTextLemmas.{word-only}
 use Rattle.pp_text.proofs.word.number_in.Goals as goal
 
 pub returns-in-Word-clause-only : goal.returns-in-Word-clause-only

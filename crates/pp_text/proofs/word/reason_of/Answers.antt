@@ -1,4 +1,4 @@
-use Rattle.pp_text.proofs.WordTexts.{text-of, reason-utf8}
+use Rattle.pp_text.proofs.WordTextLemmas.{text-of, reason-utf8}
 use Rattle.pp_text.proofs.word.reason_of.Goals as goal
 
 pub returns-then-is_reason-clause-only : goal.returns-then-is_reason-clause-only

@@ -1,8 +1,8 @@
 -- Behind `graph 1`, what leads on is a statement.
 use Rattle.std.proofs.Common.{◌≡◌, Some, true, ◌<◌, length, sym, ◌∙◌, arith}
 use Rattle.std.proofs.lemmas.Result.{IfOk-weaker}
-use Rattle.pp_text.specs.Steps.{IsAnswer, AddsStatement}
-use Rattle.pp_text.specs.View.{tokens_of}
+use Rattle.pp_text.specs.steps.Rows.{IsAnswer, AddsStatement}
+use Rattle.pp_text.specs.steps.View.{tokens_of}
 use Rattle.pp_text.proofs.AddLemmas.{leads_only}
 use Rattle.pp_text.proofs.draft.Draft.add.Goals as goal
 
