@@ -30,9 +30,9 @@ use std::marker::Model;
 pub enum LastNode {
     /// No node was added.
     None,
-    /// A match node: it takes keys, and an otherwise that may be a skip.
+    /// A match node: it takes keys and peeks, and an otherwise that may be a skip.
     Match,
-    /// An invoke node: it takes a plain otherwise.
+    /// An invoke node: it takes answers, and a plain otherwise.
     Invoke,
     /// Any other node with a plain otherwise.
     Other,
@@ -40,7 +40,7 @@ pub enum LastNode {
     Fail,
 }
 
-/// Builds a graph from calls that name hosts and nodes. Contracts see it as the list of its calls.
+/// Builds a graph from calls that name properties, host codes, spans and nodes. Contracts see it as the list of its calls.
 #[derive(Drop)]
 pub struct GraphBuilder {
     alloc: Global,

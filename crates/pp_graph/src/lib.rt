@@ -17,6 +17,6 @@ pub use fault::{GraphFault, NoMemory};
 pub use graph::Graph;
 pub use node::{Answer, Code, Key, Kind, Node, Other, Peek};
 pub use pp_rules::{
-    BuilderCall, Constant, GraphRule, HostDecl, Name, NamedCode, NamedEdge, NamedKind, PropDecl,
-    Reason, Sort, SpanDecl, Width, is_name, is_reason,
+    BuilderCall, ByteUse, Constant, GraphRule, HostDecl, Name, NamedCode, NamedEdge, NamedKind,
+    PropDecl, Reason, Sort, SpanDecl, Width, is_name, is_reason,
 };

@@ -10,21 +10,21 @@ use Rattle.pp_rules.proofs.rules.first_failure.Goals as goal
 
 pub number_at-requires-clause-within : goal.number_at-requires-clause-within
 number_at-requires-clause-within c =
-    first-within DuplicateName c.args.values.now c.duplicate.result (subst (λ cs. IsFirstFailing DuplicateName cs c.duplicate.result) c.declared.ensures c.duplicate.ensures)
+    first-within DuplicateName c.args.values.now c.duplicate.result (subst (λ cs. IsFirstFailing DuplicateName cs c.duplicate.result) c.declared-declared.ensures c.duplicate.ensures)
 
 pub returns-in-DuplicateName : goal.returns-in-DuplicateName
 returns-in-DuplicateName c =
     subst (λ rule. IsLeast (FailsAt rule (all_calls c.args.values.now c.args.sets.now)) c.number_at.result) (sym c.in-DuplicateName.is)
-    (c.number_at.ensures DuplicateName tt refl (subst (λ cs. IsFirstFailing DuplicateName cs c.duplicate.result) c.declared.ensures c.duplicate.ensures))
+    (c.number_at.ensures DuplicateName tt refl (subst (λ cs. IsFirstFailing DuplicateName cs c.duplicate.result) c.declared-declared.ensures c.duplicate.ensures))
 
-pub number_at-in-UnknownName-requires-clause-within : goal.number_at-in-UnknownName-requires-clause-within
-number_at-in-UnknownName-requires-clause-within c =
-    first-within UnknownName c.args.values.now c.first_unknown.result (subst (λ cs. IsFirstFailing UnknownName cs c.first_unknown.result) c.declared.ensures c.first_unknown.ensures.first)
+pub number_at-requires-in-UnknownName-clause-within : goal.number_at-requires-in-UnknownName-clause-within
+number_at-requires-in-UnknownName-clause-within c =
+    first-within UnknownName c.args.values.now c.first_unknown.result (subst (λ cs. IsFirstFailing UnknownName cs c.first_unknown.result) c.declared-declared.ensures c.first_unknown.ensures.first)
 
 pub returns-in-UnknownName : goal.returns-in-UnknownName
 returns-in-UnknownName c =
     subst (λ rule. IsLeast (FailsAt rule (all_calls c.args.values.now c.args.sets.now)) c.number_at-in-UnknownName.result) (sym c.in-UnknownName.is)
-    (c.number_at-in-UnknownName.ensures UnknownName tt refl (subst (λ cs. IsFirstFailing UnknownName cs c.first_unknown.result) c.declared.ensures c.first_unknown.ensures.first))
+    (c.number_at-in-UnknownName.ensures UnknownName tt refl (subst (λ cs. IsFirstFailing UnknownName cs c.first_unknown.result) c.declared-declared.ensures c.first_unknown.ensures.first))
 
 pub returns-in-NoOtherwise : goal.returns-in-NoOtherwise
 returns-in-NoOtherwise c =
