@@ -1,0 +1,15 @@
+pub mod Chart
+pub mod Faults
+pub mod Flow
+pub mod Loops
+pub mod Spans
+pub mod StepBits
+pub mod StepFaults
+pub mod StepJudging
+pub mod StepRanked
+pub mod StepReach
+pub mod StepRound
+pub mod StepSearch
+pub mod StepSpans
+pub mod StepSpread
+pub mod StepTable
