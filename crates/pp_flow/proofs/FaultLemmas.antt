@@ -1,5 +1,5 @@
 -- What is told of a point's faults.
-use Rattle.std.proofs.Common.{◌≡◌, ◌≢◌, ◌↔◌, ℕ, ◌+◌, ◌*◌, ◌<◌, List, Option, Some, None, subst, refl, sym, ◌∙◌, arith, inl, inr}
+use Rattle.std.proofs.Common.{◌≡◌, ◌≢◌, ◌↔◌, ◌⊎◌, ℕ, ◌+◌, ◌*◌, ◌<◌, List, Option, Some, None, subst, refl, sym, ◌∙◌, arith, inl, inr}
 use Rattle.pp_flow.specs.declared.faults.SpanFault.{SpanFault}
 use Rattle.pp_flow.specs.declared.faults.SpanFault.TheVariants.{Reopened, NotOpen, Mixed}
 use Rattle.pp_flow.specs.declared.moves.Act.{Act}
@@ -72,3 +72,10 @@ module _ (one two : ℕ → ℕ → Type 0) (same : (b n : ℕ) → b < 64 → o
 
   pub first_same : (f : SpanFault) → IsFirstFault one acts f → IsFirstFault two acts f
   first_same f h = record { node = h.node; first = first_at_same h.node f h.first; before = λ m lt. no_fault_same m (h.before m lt) }
+
+-- a point opens or closes one span at most
+pub one_span : (act : Act) (s t : ℕ) → (act ≡ Opens s) ⊎ (act ≡ Closes s) → (act ≡ Opens t) ⊎ (act ≡ Closes t) → s ≡ t
+one_span act s t (inl a) (inl c) = (let f : Opens s ≡ Opens t = sym a ∙ c in cc)
+one_span act s t (inr a) (inr c) = (let f : Closes s ≡ Closes t = sym a ∙ c in cc)
+one_span act s t (inl a) (inr c) = absurd (let f : Opens s ≡ Closes t = sym a ∙ c in cc)
+one_span act s t (inr a) (inl c) = absurd (let f : Closes s ≡ Opens t = sym a ∙ c in cc)

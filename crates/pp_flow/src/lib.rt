@@ -20,4 +20,4 @@ pub use builder::Flow;
 pub use faults::{Fitting, SpanFault};
 pub use laws::{a_cycle_is_a_loop, gap_is_below, ranking_gives_gap, ways_fall};
 pub use loops::Judged;
-pub use moves::{Act, Move};
+pub use moves::{Act, Move, have_spans};
