@@ -6,7 +6,7 @@ use Rattle.std.proofs.lemmas.Grind.{common_steps}
 use Rattle.std.proofs.lemmas.List.{get_or-set_same, get_or-set_other, get_or-replicate, get_or_past, length-replicate}
 use Rattle.std.proofs.lemmas.Nat.Bits.{bit_at_set_same, bit_at_set_other, shr_and_one, bit_at-zero}
 use Rattle.std.specs.Int.{bit_at}
-use Rattle.pp_flow.specs.StepBits.{has_pair, Has, has_low}
+use Rattle.pp_flow.specs.steps.Bits.{has_pair, Has, has_low}
 
 pub bit_tested : (words : List ℕ) (node b : ℕ) →
     nat_eq (bit_and (get_or words (node * 4 + b / 64) 0 / 2 ^ (b % 64)) 1) 1 ≡ has_pair words node b
@@ -53,7 +53,7 @@ flags_at n k = elim (cases_lt k n) [
 ]
 
 -- what is written back to a Vec of as many items
-pub written_back : (n : ℕ) (new old : List ℕ) → n ≡ length old → length new ≡ length old → take n (new ++ drop (length new) old) ≡ new
+pub written_back : {A : Type 0} (n : ℕ) (new old : List A) → n ≡ length old → length new ≡ length old → take n (new ++ drop (length new) old) ≡ new
 written_back n new old e f = grind (arith, common_steps)
 
 -- the first 64 bits of a point

@@ -5,7 +5,7 @@ use Rattle.pp_flow.specs.declared.faults.SpanFault.TheVariants.{Reopened, NotOpe
 use Rattle.pp_flow.specs.declared.moves.Act.{Act}
 use Rattle.pp_flow.specs.declared.moves.Act.TheVariants.{Goes, Opens, Closes, Fails}
 use Rattle.pp_flow.specs.Faults.{Reopens, ClosesShut, Mixes, HasNo, HasNoFault, IsFirstAt, IsFirstFault}
-use Rattle.pp_flow.specs.StepFaults.{IsMixedFault, IsToldAt}
+use Rattle.pp_flow.specs.steps.Faults.{IsMixedFault, IsToldAt}
 use Rattle.pp_flow.specs.Spans.{act_at, HaveSpans}
 
 module _ (stands : ℕ → ℕ → Type 0) (acts : List Act) (n : ℕ) where

@@ -2,14 +2,14 @@
 use Rattle.std.proofs.Common.{◌≡◌, ℕ, ◌+◌, ◌≤◌, ◌<◌, ◌⊎◌, List, Option, Some, None, length, get_or, min, subst, refl, sym, arith, inl, inr}
 use Rattle.std.proofs.lemmas.Bool.{cases_eq, cases_lt}
 use Rattle.pp_flow.specs.declared.moves.Move.{Move}
-use Rattle.pp_flow.specs.StepBits.{Has}
+use Rattle.pp_flow.specs.steps.Bits.{Has}
 use Rattle.pp_flow.specs.Flow.{IsReachable, at_entry, by_free, by_onward, FreeWay, stay, onward, IsOnCycle, IsLoopFree, IsGap, IsRanking}
 use Rattle.pp_flow.specs.Loops.{IsLeastLoop, IsWithoutLoop, IsLeastOnCycles}
-use Rattle.pp_flow.specs.StepJudging.{Judging, IsLeastSoFar, IsLeastAt, lesser}
-use Rattle.pp_flow.specs.StepRanked.{RanksAt, RoundAt}
-use Rattle.pp_flow.specs.StepReach.{IsReachTable}
-use Rattle.pp_flow.specs.StepRound.{HasRound, IsLeastRound}
-use Rattle.pp_flow.specs.StepTable.{IsTable}
+use Rattle.pp_flow.specs.steps.Judging.{Judging, IsLeastSoFar, IsLeastAt, lesser}
+use Rattle.pp_flow.specs.steps.Ranked.{RanksAt, RoundAt}
+use Rattle.pp_flow.specs.steps.Reach.{IsReachTable}
+use Rattle.pp_flow.specs.steps.Round.{HasRound, IsLeastRound}
+use Rattle.pp_flow.specs.steps.Table.{IsTable}
 use Rattle.pp_flow.proofs.GapLemmas.{gap_below}
 use Rattle.pp_flow.proofs.RankingLemmas.{is_byte, way_falls, no_cycle, way_of, cycle_is}
 

@@ -3,6 +3,7 @@ pub mod FaultLemmas
 pub mod GapLemmas
 pub mod JudgeLemmas
 pub mod MaskLemmas
+pub mod NumberLemmas
 pub mod PartLemmas
 pub mod RankingLemmas
 pub mod RoundLemmas

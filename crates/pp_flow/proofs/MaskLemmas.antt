@@ -6,8 +6,8 @@ use Rattle.std.proofs.lemmas.Nat.{one_shl}
 use Rattle.std.proofs.Math.Nat.{pow-le-pow_right, div-eq_of_lt}
 use Rattle.std.proofs.lemmas.Nat.Bits.{bit_at_and, bit_at_or, bit_at-lt, bit_at-zero, bit_at_mask_below, bit_at_mask_inside, bit_at_mask_above, bit_at_ones, same_from_bits, bit_at-trailing_zeros}
 use Rattle.std.specs.Int.{bit_at}
-use Rattle.pp_flow.specs.StepBits.{has_pair, Has, has_low}
-use Rattle.pp_flow.specs.StepSpread.{Grows}
+use Rattle.pp_flow.specs.steps.Bits.{has_pair, Has, has_low}
+use Rattle.pp_flow.specs.steps.Spread.{Grows}
 use Rattle.pp_flow.proofs.SpreadLemmas.{grows_first, grows_twice, true_or_false}
 
 -- a bit is set where it is 1

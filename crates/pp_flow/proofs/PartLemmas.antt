@@ -4,7 +4,7 @@ use Rattle.std.specs.Prelude.{slice_get, ◌-◌}
 use Rattle.std.proofs.lemmas.Option.{slice_get_within}
 use Rattle.std.proofs.lemmas.Bool.{cases_lt, cases_eq}
 use Rattle.pp_flow.specs.declared.moves.Move.{Move}
-use Rattle.pp_flow.specs.StepTable.{IsTable, IsPart, IsBuilt}
+use Rattle.pp_flow.specs.steps.Table.{IsTable, IsPart, IsBuilt}
 use Rattle.pp_flow.specs.declared.moves.Act.{Act}
 use Rattle.pp_flow.proofs.SearchLemmas.{at, last_at, front_at, long_one, some_same}
 

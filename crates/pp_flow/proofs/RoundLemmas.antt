@@ -6,9 +6,9 @@ use Rattle.std.proofs.lemmas.Option.{slice_get-get_or}
 use Rattle.pp_flow.specs.declared.moves.Move.{Move}
 use Rattle.pp_flow.specs.Flow.{IsFree, FreeWay, stay, onward}
 use Rattle.pp_flow.specs.Loops.{IsCycle}
-use Rattle.pp_flow.specs.StepRound.{Rounding, IsOnNoCycle}
-use Rattle.pp_flow.specs.StepSearch.{IsFreeAt, steps_left}
-use Rattle.pp_flow.specs.StepTable.{IsTable}
+use Rattle.pp_flow.specs.steps.Round.{Rounding, IsOnNoCycle}
+use Rattle.pp_flow.specs.steps.Search.{IsFreeAt, steps_left}
+use Rattle.pp_flow.specs.steps.Table.{IsTable}
 use Rattle.pp_flow.proofs.SearchLemmas.{at, Changes, set_changes, steps_fall, last_at, front_at, long_one, some_same}
 
 -- the root is met

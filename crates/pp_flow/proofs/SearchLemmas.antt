@@ -7,7 +7,7 @@ use Rattle.std.proofs.Math.Seq.{get_or-append_seam}
 use Rattle.std.proofs.lemmas.List.{get_or_append_left}
 use Rattle.pp_flow.specs.declared.moves.Move.{Move}
 use Rattle.pp_flow.specs.Flow.{IsFree, FreeWay, stay, onward}
-use Rattle.pp_flow.specs.StepSearch.{IsFreeAt, steps_left, unranked, Searching, ComesRound}
+use Rattle.pp_flow.specs.steps.Search.{IsFreeAt, steps_left, unranked, Searching, ComesRound}
 
 abbrev pub at : List ℕ → ℕ → ℕ
 at l x = get_or l x 0

@@ -9,11 +9,11 @@ use Rattle.std.proofs.lemmas.List.Elements.{All-append, Contains-append_left, Co
 use Rattle.pp_flow.specs.declared.moves.Move.{Move}
 use Rattle.pp_flow.specs.declared.moves.Act.{Act}
 use Rattle.pp_flow.specs.declared.moves.Act.TheVariants.{Goes, Opens, Closes, Fails}
-use Rattle.pp_flow.specs.StepBits.{Has, has_low, has_pair}
+use Rattle.pp_flow.specs.steps.Bits.{Has, has_low, has_pair}
 use Rattle.pp_flow.specs.Spans.{leads, act_at, MayStand, at_entry, along, HaveSpans, TellsOpen}
-use Rattle.pp_flow.specs.StepSpans.{IsSpanTable, PassesOn, SpanSteps, TellsMasks}
-use Rattle.pp_flow.specs.StepSpread.{Grows}
-use Rattle.pp_flow.specs.StepTable.{IsTable}
+use Rattle.pp_flow.specs.steps.Spans.{IsSpanTable, PassesOn, SpanSteps, TellsMasks}
+use Rattle.pp_flow.specs.steps.Spread.{Grows}
+use Rattle.pp_flow.specs.steps.Table.{IsTable}
 use Rattle.pp_flow.proofs.SearchLemmas.{long_one, last_at, front_at}
 use Rattle.pp_flow.proofs.SpreadLemmas.{not_both, true_or_false}
 use Rattle.pp_flow.proofs.WorkLemmas.{Keeps, waits_at, unset, unset-le, unset_falls, Contains-one, Contains-none, All-one}

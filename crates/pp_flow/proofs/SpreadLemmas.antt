@@ -1,8 +1,8 @@
 -- A table of pairs that grows.
 use Rattle.std.proofs.Common.{◌≡◌, ◌≢◌, ℕ, ◌<◌, ◌⊎◌, ◌||◌, Bool, true, false, List, length, refl, sym, ◌∙◌, ap, inl, inr}
 use Rattle.std.proofs.lemmas.Bool.{cases_eq, false≢true}
-use Rattle.pp_flow.specs.StepBits.{has_pair, Has}
-use Rattle.pp_flow.specs.StepSpread.{Grows}
+use Rattle.pp_flow.specs.steps.Bits.{has_pair, Has}
+use Rattle.pp_flow.specs.steps.Spread.{Grows}
 
 pub was_missing : (a c : Bool) → (a ≡ true → c ≡ true) → c ≡ false → a ≡ false
 was_missing true c h e = absurd (false≢true (sym e ∙ h refl))

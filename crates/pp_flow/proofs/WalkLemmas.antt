@@ -6,10 +6,10 @@ use Rattle.std.proofs.lemmas.List.{get_or-set_same, get_or-set_other}
 use Rattle.std.proofs.lemmas.Option.{slice_get-get_or}
 use Rattle.pp_flow.specs.declared.moves.Move.{Move}
 use Rattle.pp_flow.specs.Flow.{IsFree}
-use Rattle.pp_flow.specs.StepSearch.{IsFreeAt, steps_left, unranked, Searching, IsSearched, ComesRound}
-use Rattle.pp_flow.specs.StepBits.{Has}
-use Rattle.pp_flow.specs.StepRanked.{RanksAt}
-use Rattle.pp_flow.specs.StepTable.{IsTable}
+use Rattle.pp_flow.specs.steps.Search.{IsFreeAt, steps_left, unranked, Searching, IsSearched, ComesRound}
+use Rattle.pp_flow.specs.steps.Bits.{Has}
+use Rattle.pp_flow.specs.steps.Ranked.{RanksAt}
+use Rattle.pp_flow.specs.steps.Table.{IsTable}
 use Rattle.std.proofs.Common.{replicate}
 use Rattle.std.proofs.lemmas.List.{length-replicate}
 use Rattle.pp_flow.proofs.BitLemmas.{zeros_at}

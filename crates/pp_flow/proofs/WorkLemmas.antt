@@ -7,11 +7,11 @@ use Rattle.std.proofs.lemmas.List.{get_or-set_same, get_or-set_other}
 use Rattle.std.proofs.Common.{length-set, length-append}
 use Rattle.std.proofs.lemmas.List.Elements.{All-append, All-pop, Contains-append_left, Contains-append_right, Contains-append_cases}
 use Rattle.pp_flow.specs.declared.moves.Move.{Move}
-use Rattle.pp_flow.specs.StepBits.{has_pair, Has}
+use Rattle.pp_flow.specs.steps.Bits.{has_pair, Has}
 use Rattle.pp_flow.specs.Flow.{IsReachable, at_entry, by_free, by_onward}
-use Rattle.pp_flow.specs.StepReach.{IsReachTable}
-use Rattle.pp_flow.specs.StepSpread.{Grows, Spreads, Steps}
-use Rattle.pp_flow.specs.StepTable.{IsTable}
+use Rattle.pp_flow.specs.steps.Reach.{IsReachTable}
+use Rattle.pp_flow.specs.steps.Spread.{Grows, Spreads, Steps}
+use Rattle.pp_flow.specs.steps.Table.{IsTable}
 use Rattle.pp_flow.proofs.RankingLemmas.{is_byte}
 use Rattle.pp_flow.proofs.SpreadLemmas.{not_both, true_or_false}
 

@@ -3,13 +3,4 @@ pub mod Faults
 pub mod Flow
 pub mod Loops
 pub mod Spans
-pub mod StepBits
-pub mod StepFaults
-pub mod StepJudging
-pub mod StepRanked
-pub mod StepReach
-pub mod StepRound
-pub mod StepSearch
-pub mod StepSpans
-pub mod StepSpread
-pub mod StepTable
+pub mod steps

@@ -1,7 +1,7 @@
 // A table of bits, one for each point and byte.
 
 ghost use Rattle.std.specs.Prelude.{◌≡◌, ◌≢◌, ℕ, ◌+◌, ◌*◌, ◌<◌, ◌≤◌, ◌⊎◌, true, length};
-ghost use Rattle.pp_flow.specs.StepBits.{has_pair, Has};
+ghost use Rattle.pp_flow.specs.steps.Bits.{has_pair, Has};
 
 /// Whether the table has a pair.
 pub fn has(words: &[u64], node: u32, b: u8) -> bool

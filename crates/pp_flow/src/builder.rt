@@ -26,7 +26,7 @@ pub struct Flow {
 impl Model for Flow {
     ghost use Rattle.std.specs.Prelude.{◌-◌, length};
     ghost use Rattle.pp_flow.specs.Chart.{Chart};
-    ghost use Rattle.pp_flow.specs.StepTable.{IsBuilt};
+    ghost use Rattle.pp_flow.specs.steps.Table.{IsBuilt};
 
     ghost Value = { Chart };
 

@@ -1,12 +1,12 @@
 // Faults of spans.
 
 ghost use Rattle.std.specs.Prelude.{◌≡◌, ℕ, ◌<◌, ◌≤◌, ◌*◌, ◌+◌, ◌^◌, length, IfOk, IfSome, IfNone};
-ghost use Rattle.pp_flow.specs.StepBits.{Has, has_low, has_pair};
+ghost use Rattle.pp_flow.specs.steps.Bits.{Has, has_low, has_pair};
 ghost use Rattle.pp_flow.specs.Faults.{HasNoFault, IsFirstFault, IsFitting};
-ghost use Rattle.pp_flow.specs.StepFaults.{IsMixedFault, IsToldAt};
+ghost use Rattle.pp_flow.specs.steps.Faults.{IsMixedFault, IsToldAt};
 ghost use Rattle.pp_flow.specs.Spans.{HaveSpans};
-ghost use Rattle.pp_flow.specs.StepSpans.{TellsMasks};
-ghost use Rattle.pp_flow.specs.StepTable.{IsTable};
+ghost use Rattle.pp_flow.specs.steps.Spans.{TellsMasks};
+ghost use Rattle.pp_flow.specs.steps.Table.{IsTable};
 
 use crate::bits::has;
 use crate::moves::{Act, Move};

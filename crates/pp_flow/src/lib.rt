@@ -8,6 +8,7 @@ mod faults;
 mod laws;
 mod loops;
 mod moves;
+mod parts;
 mod rank;
 mod reach;
 mod round;

@@ -2,10 +2,10 @@
 
 ghost use Rattle.std.specs.Prelude.{◌≡◌, ℕ, ◌*◌, ◌^◌, ◌<◌, ◌≤◌, ◌⊎◌, length, slice_index, IfOk};
 ghost use Rattle.pp_flow.specs.Loops.{IsJudged, IsLeastOnCycles};
-ghost use Rattle.pp_flow.specs.StepBits.{Has};
-ghost use Rattle.pp_flow.specs.StepJudging.{IsLeastAt, lesser};
-ghost use Rattle.pp_flow.specs.StepReach.{IsReachTable};
-ghost use Rattle.pp_flow.specs.StepTable.{IsTable};
+ghost use Rattle.pp_flow.specs.steps.Bits.{Has};
+ghost use Rattle.pp_flow.specs.steps.Judging.{IsLeastAt, lesser};
+ghost use Rattle.pp_flow.specs.steps.Reach.{IsReachTable};
+ghost use Rattle.pp_flow.specs.steps.Table.{IsTable};
 
 use crate::bits::has;
 use crate::moves::Move;
@@ -95,7 +95,7 @@ fn least_at(
 }
 
 // The lesser of two points, or the one that there is.
-#[tactic(auto, unfolding(crate::specs::StepJudging::lesser))]
+#[tactic(auto, unfolding(crate::specs::steps::Judging::lesser))]
 fn lesser(a: Option<u32>, b: Option<u32>) -> Option<u32>
     ensures { result ≡ lesser a b }
 {

@@ -1,10 +1,10 @@
 // The longest rows of free moves at one byte, or a cycle.
 
 ghost use Rattle.std.specs.Prelude.{◌≡◌, ℕ, ◌+◌, ◌-◌, ◌*◌, ◌^◌, ◌<◌, ◌≤◌, ◌++◌, ◌∷◌, [], length, slice_index, IfOk, IfSome, IfNone, IsTrue, ◌↔◌};
-ghost use Rattle.pp_flow.specs.StepSearch.{IsFreeAt, IsSearched, ComesRound};
-ghost use Rattle.pp_flow.specs.StepTable.{IsTable};
-ghost use Rattle.pp_flow.specs.StepRanked.{RanksAt, RoundAt, IsRankedAt};
-ghost use Rattle.pp_flow.specs.StepBits.{Has};
+ghost use Rattle.pp_flow.specs.steps.Search.{IsFreeAt, IsSearched, ComesRound};
+ghost use Rattle.pp_flow.specs.steps.Table.{IsTable};
+ghost use Rattle.pp_flow.specs.steps.Ranked.{RanksAt, RoundAt, IsRankedAt};
+ghost use Rattle.pp_flow.specs.steps.Bits.{Has};
 
 use crate::bits::has;
 use crate::moves::Move;

@@ -1,10 +1,10 @@
 // Which pairs of a point and the next byte can be come to.
 
 ghost use Rattle.std.specs.Prelude.{◌≡◌, ◌<◌, ◌≤◌, ◌*◌, ◌+◌, ◌++◌, ◌∷◌, [], ℕ, false, length, IfOk, OnOk, slice_index_or};
-ghost use Rattle.pp_flow.specs.StepBits.{has_pair};
-ghost use Rattle.pp_flow.specs.StepReach.{IsReachTable};
-ghost use Rattle.pp_flow.specs.StepSpread.{Steps};
-ghost use Rattle.pp_flow.specs.StepTable.{IsTable};
+ghost use Rattle.pp_flow.specs.steps.Bits.{has_pair};
+ghost use Rattle.pp_flow.specs.steps.Reach.{IsReachTable};
+ghost use Rattle.pp_flow.specs.steps.Spread.{Steps};
+ghost use Rattle.pp_flow.specs.steps.Table.{IsTable};
 
 use crate::moves::Move;
 use crate::spread::{fill, spread};

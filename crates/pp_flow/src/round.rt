@@ -2,11 +2,12 @@
 
 ghost use Rattle.std.specs.Prelude.{◌≡◌, ◌≢◌, ℕ, ◌*◌, ◌^◌, ◌<◌, ◌≤◌, length, slice_index, IfOk, IfSome, IfNone};
 ghost use Rattle.pp_flow.specs.Loops.{IsCycle};
-ghost use Rattle.pp_flow.specs.StepRound.{IsOnNoCycle, HasRound, IsLeastRound};
-ghost use Rattle.pp_flow.specs.StepTable.{IsTable};
+ghost use Rattle.pp_flow.specs.steps.Round.{IsOnNoCycle, HasRound, IsLeastRound};
+ghost use Rattle.pp_flow.specs.steps.Table.{IsTable};
 
 use crate::bits::has;
 use crate::moves::Move;
+use crate::parts::candidates;
 use crate::rank::{drop_last, has_any, is_free, last_of};
 use crate::reach::push;
 use crate::tables::{copy_of, small_zeros};
@@ -90,8 +91,9 @@ pub fn least_round(
     requires some { HasRound moves.now count words.now b }
     ensures { IfOk result (λ cycle. IsLeastRound moves.now words.now b cycle.items) }
 {
+    let candidates = candidates(alloc, moves, starts, count, b)?;
     for x in 0..count {
-        if !has(words, x, b) {
+        if !has(words, x, b) || !candidates[x as usize] {
             continue;
         }
         if let Some(cycle) = round_at(alloc, moves, starts, count, b, x)? {

@@ -1,11 +1,11 @@
 // Which spans may be open or shut at a point.
 
 ghost use Rattle.std.specs.Prelude.{◌≡◌, ◌<◌, ◌≤◌, ◌*◌, ◌+◌, ℕ, false, length, IfOk, OnOk, slice_index_or};
-ghost use Rattle.pp_flow.specs.StepBits.{Has, has_pair, has_low};
+ghost use Rattle.pp_flow.specs.steps.Bits.{Has, has_pair, has_low};
 ghost use Rattle.pp_flow.specs.Spans.{leads, HaveSpans};
-ghost use Rattle.pp_flow.specs.StepSpans.{IsSpanTable, PassesOn, SpanSteps};
-ghost use Rattle.pp_flow.specs.StepSpread.{Grows};
-ghost use Rattle.pp_flow.specs.StepTable.{IsTable};
+ghost use Rattle.pp_flow.specs.steps.Spans.{IsSpanTable, PassesOn, SpanSteps};
+ghost use Rattle.pp_flow.specs.steps.Spread.{Grows};
+ghost use Rattle.pp_flow.specs.steps.Table.{IsTable};
 
 use crate::bits::{add, has};
 use crate::moves::{Act, Move};

@@ -1,8 +1,8 @@
 // How pairs spread along a move, a word at a time.
 
 ghost use Rattle.std.specs.Prelude.{◌≡◌, ◌≢◌, ℕ, ◌+◌, ◌*◌, ◌<◌, ◌≤◌, ◌⊎◌, ◌↔◌, IsTrue, length};
-ghost use Rattle.pp_flow.specs.StepBits.{Has};
-ghost use Rattle.pp_flow.specs.StepSpread.{Grows, Spreads};
+ghost use Rattle.pp_flow.specs.steps.Bits.{Has};
+ghost use Rattle.pp_flow.specs.steps.Spread.{Grows, Spreads};
 
 use crate::moves::Move;
 use crate::words::{chosen, merge};

@@ -1,7 +1,7 @@
 // Words of the table of bits, a quarter of the bytes at once.
 ghost use Rattle.std.specs.Prelude.{◌≡◌, ℕ, ◌+◌, ◌*◌, ◌/◌, ◌%◌, ◌<◌, ◌≤◌, ◌⊎◌, ◌↔◌, true, length};
-ghost use Rattle.pp_flow.specs.StepBits.{Has, has_low};
-ghost use Rattle.pp_flow.specs.StepSpread.{Grows};
+ghost use Rattle.pp_flow.specs.steps.Bits.{Has, has_low};
+ghost use Rattle.pp_flow.specs.steps.Spread.{Grows};
 
 // The word whose bits from one place up to another are set.
 fn ones(first: u32, end: u32) -> u64

@@ -2,8 +2,10 @@
 ghost use Rattle.std.specs.Prelude.{◌≡◌, ◌<◌, IfOk, IfSome};
 ghost use Rattle.pp_flow.specs.Chart.{IsWhole};
 
-use pp_flow::{Act, Fitting, Flow, Judged, Move, SpanFault, have_spans};
-use pp_flow::{a_cycle_is_a_loop, gap_is_below, ranking_gives_gap, ways_fall};
+use pp_flow::{
+    Act, Fitting, Flow, Judged, Move, SpanFault, a_cycle_is_a_loop, gap_is_below, have_spans,
+    ranking_gives_gap, ways_fall,
+};
 use std::alloc::{AllocError, Global};
 use std::test::Fail;
 
@@ -140,10 +142,26 @@ fn spans_go_along_a_move_on_no_byte(rt: HostRuntime) -> Result<(), Fail> {
 
 // What point 0 and point 1 do, and the first fault where each leads to the other.
 const FAULTS: [(Act, Act, SpanFault); 4] = [
-    (Act::Closes(2), Act::Goes, SpanFault::NotOpen { node: 0, span: 2 }),
-    (Act::Goes, Act::Opens(2), SpanFault::Mixed { node: 0, span: 2 }),
-    (Act::Fails, Act::Opens(2), SpanFault::Reopened { node: 1, span: 2 }),
-    (Act::Opens(1), Act::Goes, SpanFault::Reopened { node: 0, span: 1 }),
+    (
+        Act::Closes(2),
+        Act::Goes,
+        SpanFault::NotOpen { node: 0, span: 2 },
+    ),
+    (
+        Act::Goes,
+        Act::Opens(2),
+        SpanFault::Mixed { node: 0, span: 2 },
+    ),
+    (
+        Act::Fails,
+        Act::Opens(2),
+        SpanFault::Reopened { node: 1, span: 2 },
+    ),
+    (
+        Act::Opens(1),
+        Act::Goes,
+        SpanFault::Reopened { node: 0, span: 1 },
+    ),
 ];
 
 #[test]

@@ -1,7 +1,7 @@
 use Rattle.std.proofs.Common.{ℕ, List, arith, subst, sym}
-use Rattle.pp_flow.specs.StepBits.{Has}
+use Rattle.pp_flow.specs.steps.Bits.{Has}
 use Rattle.pp_flow.specs.Spans.{MayStand}
-use Rattle.pp_flow.specs.StepSpans.{IsSpanTable}
+use Rattle.pp_flow.specs.steps.Spans.{IsSpanTable}
 use Rattle.pp_flow.proofs.SpanLemmas.{masks_tell}
 use Rattle.pp_flow.proofs.FaultLemmas.{no_fault_same, first_same}
 use Rattle.pp_flow.proofs.faults.check_spans.Goals as goal

@@ -1,8 +1,8 @@
 use Rattle.std.proofs.Common.{◌≡◌, Option, length, arith, subst, below_more}
 use Rattle.pp_flow.specs.declared.faults.SpanFault.{SpanFault}
-use Rattle.pp_flow.specs.StepBits.{Has}
+use Rattle.pp_flow.specs.steps.Bits.{Has}
 use Rattle.pp_flow.specs.Faults.{HasNoFault}
-use Rattle.pp_flow.specs.StepFaults.{IsToldAt}
+use Rattle.pp_flow.specs.steps.Faults.{IsToldAt}
 use Rattle.pp_flow.proofs.faults.first_fault.Goals as goal
 
 pub loop-node-preserved : goal.loop-node-preserved

@@ -1,5 +1,5 @@
 use Rattle.std.proofs.Common.{ℕ, ◌<◌}
-use Rattle.pp_flow.specs.StepBits.{Has}
+use Rattle.pp_flow.specs.steps.Bits.{Has}
 use Rattle.pp_flow.specs.Faults.{HasNoFault}
 use Rattle.pp_flow.proofs.faults.first_fault.Given as goal
 

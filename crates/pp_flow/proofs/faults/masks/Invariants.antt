@@ -1,4 +1,4 @@
-use Rattle.pp_flow.specs.StepSpans.{TellsMasks}
+use Rattle.pp_flow.specs.steps.Spans.{TellsMasks}
 use Rattle.pp_flow.proofs.faults.masks.Given as goal
 
 abbrev pub invariant-loop-node : goal.invariant-loop-node

@@ -1,5 +1,5 @@
 use Rattle.std.proofs.Common.{ℕ, ◌<◌, ◌*◌, ◌+◌}
-use Rattle.pp_flow.specs.StepBits.{Has}
+use Rattle.pp_flow.specs.steps.Bits.{Has}
 use Rattle.pp_flow.proofs.faults.mixed_at.Given as goal
 
 abbrev pub invariant-loop-s : goal.invariant-loop-s

@@ -1,8 +1,8 @@
 use Rattle.std.proofs.Common.{◌≡◌, ◌<◌, ◌≤◌, ◌⊎◌, ℕ, List, length, get_or, subst, sym, ◌∙◌, arith}
-use Rattle.pp_flow.specs.StepBits.{Has}
-use Rattle.pp_flow.specs.StepJudging.{Judging}
-use Rattle.pp_flow.specs.StepRanked.{RanksAt, RoundAt, IsRankedAt}
-use Rattle.pp_flow.specs.StepReach.{IsReachTable}
+use Rattle.pp_flow.specs.steps.Bits.{Has}
+use Rattle.pp_flow.specs.steps.Judging.{Judging}
+use Rattle.pp_flow.specs.steps.Ranked.{RanksAt, RoundAt, IsRankedAt}
+use Rattle.pp_flow.specs.steps.Reach.{IsReachTable}
 use Rattle.pp_flow.specs.declared.rank.Ranked.{Ranked}
 use Rattle.pp_flow.proofs.JudgeLemmas.{judging_first, judging_on, judged_free, round_of}
 use Rattle.pp_flow.proofs.loops.judge.Goals as goal

@@ -1,4 +1,4 @@
-use Rattle.pp_flow.specs.StepJudging.{Judging}
+use Rattle.pp_flow.specs.steps.Judging.{Judging}
 use Rattle.pp_flow.proofs.loops.judge.Given as goal
 
 abbrev pub invariant-loop-number : goal.invariant-loop-number

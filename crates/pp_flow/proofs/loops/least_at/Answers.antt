@@ -1,5 +1,5 @@
 use Rattle.std.proofs.Common.{subst, arith}
-use Rattle.pp_flow.specs.StepRanked.{RoundAt, IsRankedAt}
+use Rattle.pp_flow.specs.steps.Ranked.{RoundAt, IsRankedAt}
 use Rattle.pp_flow.specs.declared.rank.Ranked.{Ranked}
 use Rattle.pp_flow.proofs.JudgeLemmas.{round_of, none_at, some_at}
 use Rattle.pp_flow.proofs.loops.least_at.Goals as goal

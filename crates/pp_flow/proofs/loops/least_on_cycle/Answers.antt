@@ -1,5 +1,5 @@
 use Rattle.std.proofs.Common.{◌≡◌, ◌+◌, ℕ, Option, subst, sym, arith}
-use Rattle.pp_flow.specs.StepJudging.{IsLeastSoFar}
+use Rattle.pp_flow.specs.steps.Judging.{IsLeastSoFar}
 use Rattle.pp_flow.proofs.JudgeLemmas.{so_far_first, so_far_on, so_far_all}
 use Rattle.pp_flow.proofs.loops.least_on_cycle.Goals as goal
 

@@ -1,4 +1,4 @@
-use Rattle.pp_flow.specs.StepJudging.{IsLeastSoFar}
+use Rattle.pp_flow.specs.steps.Judging.{IsLeastSoFar}
 use Rattle.pp_flow.proofs.loops.least_on_cycle.Given as goal
 
 abbrev pub invariant-loop-number : goal.invariant-loop-number

@@ -1,6 +1,6 @@
 use Rattle.std.proofs.Common.{◌≡◌, ℕ, List, length, replicate, subst, sym, ◌∙◌, ap}
 use Rattle.std.proofs.lemmas.List.{length-replicate}
-use Rattle.pp_flow.specs.StepSearch.{IsSearched}
+use Rattle.pp_flow.specs.steps.Search.{IsSearched}
 use Rattle.pp_flow.proofs.WalkLemmas.{searched_first}
 use Rattle.pp_flow.proofs.rank.rank_at.Goals as goal
 

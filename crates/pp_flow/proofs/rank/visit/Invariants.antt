@@ -1,5 +1,5 @@
 use Rattle.std.proofs.Common.{length}
-use Rattle.pp_flow.specs.StepSearch.{steps_left}
+use Rattle.pp_flow.specs.steps.Search.{steps_left}
 use Rattle.pp_flow.proofs.WalkLemmas.{Walking}
 use Rattle.pp_flow.proofs.rank.visit.Given as goal
 

@@ -1,6 +1,6 @@
 use Rattle.std.proofs.Common.{◌≡◌, ◌<◌, ℕ, length, get_or}
-use Rattle.pp_flow.specs.StepBits.{Has}
-use Rattle.pp_flow.specs.StepSearch.{IsSearched}
+use Rattle.pp_flow.specs.steps.Bits.{Has}
+use Rattle.pp_flow.specs.steps.Search.{IsSearched}
 use Rattle.pp_flow.proofs.rank.visit_all.Given as goal
 
 abbrev pub invariant-loop-x : goal.invariant-loop-x

@@ -1,8 +1,8 @@
 use Rattle.std.proofs.Common.{◌≡◌, ◌*◌, ℕ, List, Bool, false, length, replicate, subst, sym, ◌∙◌, ap, arith, get_or}
 use Rattle.std.proofs.lemmas.List.{length-replicate}
-use Rattle.pp_flow.specs.StepBits.{has_pair}
-use Rattle.pp_flow.specs.StepReach.{IsReachTable}
-use Rattle.pp_flow.specs.StepTable.{IsTable}
+use Rattle.pp_flow.specs.steps.Bits.{has_pair}
+use Rattle.pp_flow.specs.steps.Reach.{IsReachTable}
+use Rattle.pp_flow.specs.steps.Table.{IsTable}
 use Rattle.pp_flow.proofs.BitLemmas.{none_set, flags_at, written_back}
 use Rattle.pp_flow.proofs.reach.reachable.Goals as goal
 

@@ -1,6 +1,6 @@
 use Rattle.std.proofs.Common.{ℕ, ◌<◌}
-use Rattle.pp_flow.specs.StepBits.{Has}
-use Rattle.pp_flow.specs.StepRound.{IsOnNoCycle}
+use Rattle.pp_flow.specs.steps.Bits.{Has}
+use Rattle.pp_flow.specs.steps.Round.{IsOnNoCycle}
 use Rattle.pp_flow.proofs.round.least_round.Given as goal
 
 abbrev pub invariant-loop-x : goal.invariant-loop-x

@@ -1,6 +1,6 @@
 use Rattle.std.proofs.Common.{◌≡◌, ℕ, List, ◌∷◌, [], ◌++◌, length, arith, subst, ◌∙◌, ap, refl, w64}
 use Rattle.std.proofs.Math.Facts.{Fits-of_lt}
-use Rattle.pp_flow.specs.StepRound.{Rounding}
+use Rattle.pp_flow.specs.steps.Round.{Rounding}
 use Rattle.pp_flow.proofs.SpreadLemmas.{not_both}
 use Rattle.pp_flow.proofs.WalkLemmas.{no_move}
 use Rattle.pp_flow.proofs.WorkLemmas.{nothing}

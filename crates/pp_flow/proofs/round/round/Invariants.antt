@@ -1,6 +1,6 @@
 use Rattle.std.proofs.Common.{length, ◌*◌, ◌+◌}
-use Rattle.pp_flow.specs.StepSearch.{steps_left}
-use Rattle.pp_flow.specs.StepRound.{Rounding}
+use Rattle.pp_flow.specs.steps.Search.{steps_left}
+use Rattle.pp_flow.specs.steps.Round.{Rounding}
 use Rattle.pp_flow.proofs.round.round.Given as goal
 
 abbrev pub invariant-walk : goal.invariant-walk

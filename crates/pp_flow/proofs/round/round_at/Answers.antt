@@ -1,6 +1,6 @@
 use Rattle.std.proofs.Common.{◌≡◌, ℕ, List, length, get_or, replicate, subst, sym, ◌∙◌, ap, arith}
 use Rattle.std.proofs.lemmas.List.{length-replicate}
-use Rattle.pp_flow.specs.StepTable.{IsTable}
+use Rattle.pp_flow.specs.steps.Table.{IsTable}
 use Rattle.pp_flow.proofs.BitLemmas.{zeros_at}
 use Rattle.pp_flow.proofs.round.round_at.Goals as goal
 

@@ -1,7 +1,7 @@
 use Rattle.std.proofs.Common.{◌≡◌, ℕ, ◌<◌, ◌⊎◌}
-use Rattle.pp_flow.specs.StepBits.{Has}
+use Rattle.pp_flow.specs.steps.Bits.{Has}
 use Rattle.pp_flow.specs.Spans.{leads}
-use Rattle.pp_flow.specs.StepSpread.{Grows}
+use Rattle.pp_flow.specs.steps.Spread.{Grows}
 use Rattle.pp_flow.proofs.spans.pass_on.Given as goal
 
 abbrev pub invariant-loop-b : goal.invariant-loop-b

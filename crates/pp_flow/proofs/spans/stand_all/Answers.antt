@@ -4,7 +4,7 @@ use Rattle.std.specs.List.{All}
 use Rattle.std.proofs.lemmas.Option.{slice_get-get_or}
 use Rattle.pp_flow.specs.declared.moves.Move.{Move}
 use Rattle.pp_flow.specs.Spans.{act_at}
-use Rattle.pp_flow.specs.StepSpans.{SpanSteps}
+use Rattle.pp_flow.specs.steps.Spans.{SpanSteps}
 use Rattle.pp_flow.proofs.WorkLemmas.{unset, All-append_left, same_end, nothing}
 use Rattle.pp_flow.proofs.SpanLemmas.{SpanWork, SpanSettling, span_work_first, span_settling_first, span_settling_last, span_step_settles, span_step_less, span_work_done, act_small}
 use Rattle.pp_flow.proofs.spans.stand_all.Goals as goal

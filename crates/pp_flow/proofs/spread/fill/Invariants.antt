@@ -1,6 +1,6 @@
 use Rattle.std.proofs.Common.{ℕ, ◌<◌, ◌/◌}
-use Rattle.pp_flow.specs.StepBits.{Has}
-use Rattle.pp_flow.specs.StepSpread.{Grows}
+use Rattle.pp_flow.specs.steps.Bits.{Has}
+use Rattle.pp_flow.specs.steps.Spread.{Grows}
 use Rattle.pp_flow.proofs.spread.fill.Given as goal
 
 abbrev pub invariant-loop-quarter : goal.invariant-loop-quarter

@@ -1,7 +1,7 @@
 -- How a table of pairs grows at one point.
 use Rattle.std.specs.Prelude.{◌≡◌, ◌≢◌, ℕ, ◌<◌, ◌≤◌, Bool, true, false, List, [], ◌∷◌, ◌++◌, length, ◌⊎◌, IsTrue, slice_index_or, slice_set}
 use Rattle.pp_flow.specs.declared.moves.Move.{Move}
-use Rattle.pp_flow.specs.StepBits.{has_pair, Has}
+use Rattle.pp_flow.specs.steps.Bits.{has_pair, Has}
 
 -- pairs of one point were added, and changed says whether any was
 pub record Grows (to : ℕ) (old new : List ℕ) (changed : Bool) : Type 0 where

@@ -3,8 +3,8 @@ use Rattle.std.specs.Prelude.{◌≡◌, ℕ, ◌*◌, ◌+◌, ◌<◌, ◌⊎�
 use Rattle.pp_flow.specs.declared.moves.Move.{Move}
 use Rattle.pp_flow.specs.declared.moves.Act.{Act}
 use Rattle.pp_flow.specs.Spans.{leads, MayStand}
-use Rattle.pp_flow.specs.StepBits.{Has, has_low, has_pair}
-use Rattle.pp_flow.specs.StepSpread.{Grows}
+use Rattle.pp_flow.specs.steps.Bits.{Has, has_low, has_pair}
+use Rattle.pp_flow.specs.steps.Spread.{Grows}
 
 -- the table has exactly the standings that there may be
 pub record IsSpanTable (moves : List Move) (acts : List Act) (entry count : ℕ) (words : List ℕ) : Type 0 where

@@ -3,9 +3,9 @@ use Rattle.std.specs.Prelude.{◌≡◌, ℕ, suc, ◌<◌, List, length, slice_
 use Rattle.pp_flow.specs.declared.moves.Move.{Move}
 use Rattle.pp_flow.specs.declared.rank.Ranked.{Ranked}
 use Rattle.pp_flow.specs.declared.rank.Ranked.TheVariants.{Ranks, Round}
-use Rattle.pp_flow.specs.StepBits.{Has}
+use Rattle.pp_flow.specs.steps.Bits.{Has}
 use Rattle.pp_flow.specs.Flow.{IsFree}
-use Rattle.pp_flow.specs.StepSearch.{ComesRound}
+use Rattle.pp_flow.specs.steps.Search.{ComesRound}
 
 pub record RanksAt (moves : List Move) (count : ℕ) (words : List ℕ) (b : ℕ) (rank : List ℕ) : Type 0 where
   pub long : length rank ≡ count

@@ -1,10 +1,10 @@
 -- A search for a cycle of free moves through one point.
 use Rattle.std.specs.Prelude.{◌≡◌, ◌≢◌, ℕ, suc, ◌<◌, ◌≤◌, ◌⊎◌, List, Some, length, slice_get, slice_index}
 use Rattle.pp_flow.specs.declared.moves.Move.{Move}
-use Rattle.pp_flow.specs.StepBits.{Has}
+use Rattle.pp_flow.specs.steps.Bits.{Has}
 use Rattle.pp_flow.specs.Loops.{IsCycle}
 use Rattle.pp_flow.specs.Flow.{IsFree, FreeWay}
-use Rattle.pp_flow.specs.StepSearch.{IsFreeAt}
+use Rattle.pp_flow.specs.steps.Search.{IsFreeAt}
 
 -- A search that has come this far. Of each point that was met the moves before next lead to points that
 -- were met, and not to the root; all of its moves are seen unless it is on the path.
