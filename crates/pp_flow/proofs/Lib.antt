@@ -1,0 +1,14 @@
+pub mod BitLemmas
+pub mod FaultLemmas
+pub mod GapLemmas
+pub mod JudgeLemmas
+pub mod MaskLemmas
+pub mod NumberLemmas
+pub mod PartLemmas
+pub mod RankingLemmas
+pub mod RoundLemmas
+pub mod SearchLemmas
+pub mod SpanLemmas
+pub mod SpreadLemmas
+pub mod WalkLemmas
+pub mod WorkLemmas

@@ -1,0 +1,5 @@
+//! Tests of the crates below, a module for each.
+#![tactic(auto)]
+
+#[cfg(test)]
+mod flow;
