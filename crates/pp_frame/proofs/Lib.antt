@@ -1,0 +1,6 @@
+pub mod LineLemmas
+pub mod HeadLemmas
+pub mod FieldLemmas
+pub mod FoldLemmas
+pub mod NumberLemmas
+pub mod ValueLemmas
