@@ -12,7 +12,7 @@ use Rattle.pp_frame.specs.declared.parts.HeadFault.TheVariants.{NoColon, NoEnd, 
 use Rattle.pp_frame.specs.Bytes.{crlf}
 use Rattle.pp_frame.specs.Lines.{HasNoEnd, IsLine, ended, IsHead, HasEmptyLine}
 use Rattle.pp_frame.specs.Fields.{HasColon, HasFields, LacksColonAt, fields_from, field_at}
-use Rattle.pp_frame.specs.Steps.{BeginsWithLine, HasRead, HasReadFields, IsFaultOf, IsFaultOfLine}
+use Rattle.pp_frame.specs.steps.Heads.{BeginsWithLine, HasRead, HasReadFields, IsFaultOf, IsFaultOfLine}
 use Rattle.pp_frame.proofs.LineLemmas.{first_line}
 
 -- nothing was read yet
@@ -39,10 +39,10 @@ read_more head lines at len read begins some =
       each = All-push IsLine lines line read.each (record { some = omega arith; no_end = begins.no_end });
       place = place;
       bytes_are =
-        read.bytes_are
-        ∙ ap (λ (xs : List ℕ). flat_map ended lines ++ xs) (begins.bytes_are ∙ sym (append_assoc line crlf (drop (len + 2) rest)) ∙ ap (λ (xs : List ℕ). ended line ++ xs) moved)
-        ∙ sym (append_assoc (flat_map ended lines) (ended line) (drop (at + (len + 2)) head))
-        ∙ ap (λ (xs : List ℕ). xs ++ drop (at + (len + 2)) head) (sym joined);
+          read.bytes_are
+          ∙ ap (λ (xs : List ℕ). flat_map ended lines ++ xs) (begins.bytes_are ∙ sym (append_assoc line crlf (drop (len + 2) rest)) ∙ ap (λ (xs : List ℕ). ended line ++ xs) moved)
+          ∙ sym (append_assoc (flat_map ended lines) (ended line) (drop (at + (len + 2)) head))
+          ∙ ap (λ (xs : List ℕ). xs ++ drop (at + (len + 2)) head) (sym joined);
     }
 
 -- the lines of what is left follow those that were read
@@ -50,9 +50,9 @@ pub read_then : (head : List ℕ) (lines more : List (List ℕ)) (at : ℕ) (res
 read_then head lines more at rest read is_head = record {
   each = All-append IsLine lines more read.each is_head.each;
   bytes_are =
-    read.bytes_are ∙ ap (λ (xs : List ℕ). flat_map ended lines ++ xs) is_head.bytes_are
-    ∙ sym (append_assoc (flat_map ended lines) (flat_map ended more) (crlf ++ rest))
-    ∙ ap (λ (xs : List ℕ). xs ++ (crlf ++ rest)) (sym (flat_map-append ended lines more));
+      read.bytes_are ∙ ap (λ (xs : List ℕ). flat_map ended lines ++ xs) is_head.bytes_are
+      ∙ sym (append_assoc (flat_map ended lines) (flat_map ended more) (crlf ++ rest))
+      ∙ ap (λ (xs : List ℕ). xs ++ (crlf ++ rest)) (sym (flat_map-append ended lines more));
 }
 
 -- an empty line stands where the bytes begin with one
@@ -67,7 +67,7 @@ head_tail line more [] rest is_line is_head =
     absurd (omega (arith, is_line.some, ap length empty))
 head_tail line more (other ∷ others) rest is_line is_head =
     let both = first_line line other more (flat_map ended others ++ (crlf ++ rest)) is_line.no_end (All-head IsLine other others is_head.each).no_end
-      (is_head.bytes_are ∙ ended_then other (flat_map ended others) (crlf ++ rest)) in
+    (is_head.bytes_are ∙ ended_then other (flat_map ended others) (crlf ++ rest)) in
     (others, ap (λ (x : List ℕ). x ∷ others) (sym both.0), record { each = All-tail IsLine other others is_head.each; bytes_are = both.1 })
 
 -- behind several lines, they go on
@@ -140,9 +140,9 @@ fields_more head fields at number len field now so_far begins some has field_is 
       read = read_more head so_far.lines at len so_far.read begins some;
       each = All-push HasColon so_far.lines line so_far.each has;
       fields_are =
-        now_is ∙ ap (λ (xs : List Field). xs ++ field ∷ []) so_far.fields_are
-        ∙ ap (λ (x : Field). fields_from 0 so_far.lines ++ x ∷ []) (field_is ∙ ap (λ (n : ℕ). field_at n line) (let e : at ≡ 0 + length (flat_map ended so_far.lines) = omega (arith, so_far.read.place) in e))
-        ∙ sym (fields_from_push 0 so_far.lines line);
+          now_is ∙ ap (λ (xs : List Field). xs ++ field ∷ []) so_far.fields_are
+          ∙ ap (λ (x : Field). fields_from 0 so_far.lines ++ x ∷ []) (field_is ∙ ap (λ (n : ℕ). field_at n line) (let e : at ≡ 0 + length (flat_map ended so_far.lines) = omega (arith, so_far.read.place) in e))
+          ∙ sym (fields_from_push 0 so_far.lines line);
       counted = omega (arith, so_far.counted, length-append so_far.lines (line ∷ []));
       few = omega (arith, so_far.few);
     }
@@ -153,8 +153,8 @@ fields_end head fields at number so_far begins = record {
   lines = so_far.lines;
   rest = drop 2 (drop at head);
   is_head =
-    let P : List (List ℕ) → Type 0 = λ ls. IsHead head ls (drop 2 (drop at head)) in
-    subst P (append-nil so_far.lines) (read_then head so_far.lines [] at (drop 2 (drop at head)) so_far.read (head_at_once (drop at head) begins));
+      let P : List (List ℕ) → Type 0 = λ ls. IsHead head ls (drop 2 (drop at head)) in
+      subst P (append-nil so_far.lines) (read_then head so_far.lines [] at (drop 2 (drop at head)) so_far.read (head_at_once (drop at head) begins));
   each = so_far.each;
   fields_are = so_far.fields_are;
 }

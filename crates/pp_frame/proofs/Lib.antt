@@ -4,3 +4,4 @@ pub mod FieldLemmas
 pub mod FoldLemmas
 pub mod NumberLemmas
 pub mod ValueLemmas
+pub mod Rows

@@ -4,7 +4,7 @@ use Rattle.std.proofs.lemmas.Bool.{cases_lt, cases_order}
 use Rattle.std.proofs.lemmas.List.{get_or_past, get_or-take, length-take-le, take-append-drop, drop_more, get_or_at, get_or_append_left, get_or-append_right, take_at, drop_at, length-take}
 use Rattle.pp_frame.specs.Bytes.{crlf}
 use Rattle.pp_frame.specs.Lines.{HasNoEnd}
-use Rattle.pp_frame.specs.Steps.{BeginsWithLine}
+use Rattle.pp_frame.specs.steps.Heads.{BeginsWithLine}
 
 -- the bytes before the first CRLF have none
 no_end-take : (bytes : List ℕ) (n : ℕ) → n ≤ length bytes → ((k : ℕ) → k < n → get_or bytes k 0 ≡ 13 → get_or bytes (k + 1) 0 ≢ 10) → HasNoEnd (take n bytes)

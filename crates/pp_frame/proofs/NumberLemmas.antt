@@ -41,7 +41,7 @@ pub length_from_digits : (value : List ℕ) (n : ℕ) → 0 < length value → A
 unfolding length_in
 length_from_digits value n some all small is =
     let pass : is_length value ≡ true = and_from (ltb 0 (length value) && list_all (λ b. ltb (digit_value b) 10) value) (ltb (digits_value 10 value) (2 ^ 64))
-      (and_from (ltb 0 (length value)) (list_all (λ b. ltb (digit_value b) 10) value) (lt-ltb 0 (length value) some) (test_from_digits value all)) (lt-ltb (digits_value 10 value) (2 ^ 64) (omega arith)) in
+    (and_from (ltb 0 (length value)) (list_all (λ b. ltb (digit_value b) 10) value) (lt-ltb 0 (length value) some) (test_from_digits value all)) (lt-ltb (digits_value 10 value) (2 ^ 64) (omega arith)) in
     ap Some is ∙ sym (cond-true (is_length value) (Some (digits_value 10 value)) None pass)
 
 -- other bytes are none
@@ -49,7 +49,7 @@ pub no_length : (value : List ℕ) → ¬ ((0 < length value) × AllDigits 10 va
 unfolding length_in
 no_length value none =
     let fails : is_length value ≡ false = false_from_ne_true (is_length value) (λ pass.
-      let outer = and_parts (ltb 0 (length value) && list_all (λ b. ltb (digit_value b) 10) value) (ltb (digits_value 10 value) (2 ^ 64)) pass in
-      let inner = and_parts (ltb 0 (length value)) (list_all (λ b. ltb (digit_value b) 10) value) outer.0 in
-      none (ltb-true 0 (length value) inner.0, digits_from_test value inner.1, ltb-true (digits_value 10 value) (2 ^ 64) outer.1)) in
+    let outer = and_parts (ltb 0 (length value) && list_all (λ b. ltb (digit_value b) 10) value) (ltb (digits_value 10 value) (2 ^ 64)) pass in
+    let inner = and_parts (ltb 0 (length value)) (list_all (λ b. ltb (digit_value b) 10) value) outer.0 in
+    none (ltb-true 0 (length value) inner.0, digits_from_test value inner.1, ltb-true (digits_value 10 value) (2 ^ 64) outer.1)) in
     sym (cond-false (is_length value) (Some (digits_value 10 value)) None fails)

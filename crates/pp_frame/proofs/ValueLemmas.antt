@@ -9,7 +9,7 @@ use Rattle.std.proofs.lemmas.List.Splits.{slice_split_none, slice_split_first}
 use Rattle.pp_frame.specs.declared.parts.Field.{Field}
 use Rattle.pp_frame.specs.Bytes.{folds_to, comma}
 use Rattle.pp_frame.specs.Framing.{values_named, elements, without_blanks, all_elements, last_of, ends_chunked, is_quoted, chunked, is_named, transfer_encoding}
-use Rattle.pp_frame.specs.Codings.{last_is_chunked, after_part, after_value, after_field, quotes, value_if_named}
+use Rattle.pp_frame.specs.steps.Codings.{last_is_chunked, after_part, after_value, after_field, quotes, value_if_named}
 use Rattle.pp_frame.proofs.FieldLemmas.{place_found}
 
 -- the values from one field on

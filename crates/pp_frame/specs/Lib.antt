@@ -2,5 +2,7 @@ pub mod Bytes
 pub mod Lines
 pub mod Fields
 pub mod Framing
-pub mod Steps
-pub mod Codings
+pub mod StartLine
+pub mod Chunked
+pub mod Cut
+pub mod steps

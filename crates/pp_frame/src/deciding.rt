@@ -6,7 +6,9 @@ ghost use Rattle.pp_frame.specs.Framing.{framing_of, stated, coded, framed_by, u
 use crate::message::{Framing, Start};
 use crate::numbers::length_in;
 use crate::parts::Field;
-use crate::values::{CONTENT_LENGTH, TRANSFER_ENCODING, any_quoted, ends_chunked, first_named, has_first, has_second};
+use crate::values::{
+    CONTENT_LENGTH, TRANSFER_ENCODING, any_quoted, ends_chunked, first_named, has_first, has_second,
+};
 
 /// How the body of a message is framed, whose head has these fields. `answer` is what the host answered to the head.
 ///

@@ -2,7 +2,7 @@
 ghost use Rattle.std.specs.Prelude.{◌≡◌, ℕ, ◌+◌, ◌<◌, ◌^◌, ◌==◌, ◌⊎◌, List, length, IfOk, IsErrOf, MatchBool, MatchResult};
 ghost use Rattle.std.specs.List.{position};
 ghost use Rattle.std.specs.Option.{SomeIff};
-ghost use Rattle.pp_frame.specs.Steps.{IsFaultOf, IsFaultOfLine};
+ghost use Rattle.pp_frame.specs.steps.Heads.{IsFaultOf, IsFaultOfLine};
 ghost use Rattle.pp_frame.specs.declared.parts.Field.{Field};
 ghost use Rattle.pp_frame.specs.Bytes.{colon};
 ghost use Rattle.pp_frame.specs.Lines.{HasEmptyLine};

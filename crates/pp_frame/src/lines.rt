@@ -1,7 +1,7 @@
 // The line that bytes begin with.
 ghost use Rattle.std.specs.Prelude.{IfSome, IfNone};
 ghost use Rattle.pp_frame.specs.Lines.{HasNoEnd};
-ghost use Rattle.pp_frame.specs.Steps.{BeginsWithLine};
+ghost use Rattle.pp_frame.specs.steps.Heads.{BeginsWithLine};
 
 // How many bytes stand before the first CRLF.
 pub(crate) fn line_len(bytes: &[u8]) -> Option<usize>

@@ -35,6 +35,7 @@ ghost use Rattle.std.specs.Prelude.{◌≡◌};
 
 impl From<AllocError> for HeadFault {
     ghost from_gives = { λ _ e. e ≡ NoMemory };
+
     fn from(_: AllocError) -> Self {
         HeadFault::NoMemory
     }
@@ -42,6 +43,7 @@ impl From<AllocError> for HeadFault {
 
 impl<T: Drop> From<AllocFailed<T>> for HeadFault {
     ghost from_gives = { λ _ e. e ≡ NoMemory };
+
     fn from(_: AllocFailed<T>) -> Self {
         HeadFault::NoMemory
     }

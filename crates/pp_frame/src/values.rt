@@ -5,7 +5,7 @@ ghost use Rattle.std.specs.Option.{is_some, option_copied};
 ghost use Rattle.pp_frame.specs.Bytes.{comma};
 ghost use Rattle.pp_frame.specs.Fields.{IsFieldOf};
 ghost use Rattle.pp_frame.specs.Framing.{values_named, is_quoted, ends_chunked, transfer_encoding};
-ghost use Rattle.pp_frame.specs.Codings.{after_field, after_part, after_value, quotes, value_if_named};
+ghost use Rattle.pp_frame.specs.steps.Codings.{after_field, after_part, after_value, quotes, value_if_named};
 
 use crate::blanks::without_blanks;
 use crate::folding::folds_to;

@@ -1,5 +1,5 @@
 use Rattle.std.proofs.Common.{◌-◌, List, ℕ, length}
-use Rattle.pp_frame.specs.Steps.{HasRead}
+use Rattle.pp_frame.specs.steps.Heads.{HasRead}
 use Rattle.pp_frame.proofs.head.has_empty_line.Given as goal
 
 abbrev pub invariant-loop-len : goal.invariant-loop-len

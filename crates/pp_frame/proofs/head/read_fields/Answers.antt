@@ -1,7 +1,7 @@
 use Rattle.std.proofs.Common.{◌≡◌, ◌+◌, ◌-◌, arith, subst, sym, List, drop}
 use Rattle.std.proofs.lemmas.List.{take_rest}
 use Rattle.pp_frame.specs.declared.parts.Field.{Field}
-use Rattle.pp_frame.specs.Steps.{HasReadFields}
+use Rattle.pp_frame.specs.steps.Heads.{HasReadFields}
 use Rattle.pp_frame.proofs.HeadLemmas.{fields_none, fields_more, fields_end, fields_fault, fields_no_end, cut_line}
 use Rattle.pp_frame.proofs.head.read_fields.Goals as goal
 

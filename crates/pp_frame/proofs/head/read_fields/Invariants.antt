@@ -1,5 +1,5 @@
 use Rattle.std.proofs.Common.{◌-◌, length}
-use Rattle.pp_frame.specs.Steps.{HasReadFields}
+use Rattle.pp_frame.specs.steps.Heads.{HasReadFields}
 use Rattle.pp_frame.proofs.head.read_fields.Given as goal
 
 abbrev pub invariant-loop-len : goal.invariant-loop-len

@@ -1,5 +1,5 @@
 use Rattle.std.proofs.Common.{◌≡◌, ◌≤◌, length}
-use Rattle.pp_frame.specs.Codings.{after_value}
+use Rattle.pp_frame.specs.steps.Codings.{after_value}
 use Rattle.pp_frame.proofs.values.after_value.Given as goal
 
 abbrev pub invariant-loop-comma : goal.invariant-loop-comma

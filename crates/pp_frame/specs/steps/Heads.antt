@@ -1,4 +1,4 @@
--- What the private steps ensure.
+-- What the steps of reading a head ensure.
 use Rattle.std.specs.Prelude.{◌≡◌, ℕ, ◌+◌, ◌≤◌, List, ◌++◌, length, take, drop, All}
 use Rattle.std.specs.List.{flat_map}
 use Rattle.pp_frame.specs.declared.parts.HeadFault.{HeadFault}
