@@ -5,3 +5,5 @@ pub mod FoldLemmas
 pub mod NumberLemmas
 pub mod ValueLemmas
 pub mod Rows
+pub mod PlaceLemmas
+pub mod ComeLemmas

@@ -4,6 +4,7 @@
 #![tactic(auto)]
 
 mod blanks;
+mod coded;
 mod deciding;
 mod folding;
 mod head;
@@ -11,8 +12,10 @@ mod lines;
 mod message;
 mod numbers;
 mod parts;
+mod places;
 mod values;
 
+pub use coded::{ChunkFault, Chunks, chunk_data};
 pub use deciding::framing;
 pub use head::fields_of;
 pub use message::{Framing, Start};

@@ -1,4 +1,6 @@
-use pp_frame::{Field, Framing, HeadFault, Part, Start, fields_of, framing};
+use pp_frame::{
+    ChunkFault, Field, Framing, HeadFault, Part, Start, chunk_data, fields_of, framing,
+};
 use std::test::Fail;
 
 /// A request of version 1.1.
@@ -196,5 +198,69 @@ fn responses_are_framed(rt: HostRuntime) -> Result<(), Fail> {
             "at {status} {head:?}"
         );
     }
+    Ok(())
+}
+
+/// Chunked bodies, how many bytes each takes, and the data.
+const CHUNKED: [(&[u8], usize, &[u8]); 5] = [
+    (b"5\r\nHELLO\r\n0\r\n\r\n", 15, b"HELLO"),
+    (b"0\r\n\r\nrest", 5, b""),
+    (b"1;x=y\r\na\r\n00;z\r\nA: b\r\nC:\r\n\r\n", 28, b"a"),
+    (b"2\r\n\r\n\r\n1\r\nb\r\n0\r\n\r\n5", 18, b"\r\nb"),
+    (b"00a\r\n0123456789\r\n0\r\n\r\n", 22, b"0123456789"),
+];
+
+#[test]
+fn a_chunked_body_gives_its_data(rt: HostRuntime) -> Result<(), Fail> {
+    for (bytes, used, body) in CHUNKED {
+        let found = chunk_data(rt.alloc(), bytes)?;
+        assert!(rt; found.whole, "at {bytes:?}");
+        assert_eq!(rt; found.used, used, "at {bytes:?}");
+        assert_eq!(rt; found.body.as_slice(), body, "at {bytes:?}");
+    }
+    Ok(())
+}
+
+/// A chunked body with an extension and trailers. Its data stands from 7 to 10.
+const CUT: &[u8] = b"3;x=y\r\nabc\r\n0\r\nA: b\r\n\r\n";
+
+#[test]
+fn a_body_that_is_cut_off_gives_its_data_so_far(rt: HostRuntime) -> Result<(), Fail> {
+    for len in 0..CUT.len() {
+        let found = chunk_data(rt.alloc(), &CUT[..len])?;
+        assert!(rt; !found.whole, "at {len}");
+        assert_eq!(rt; found.used, len, "at {len}");
+        let from = len.min(7);
+        assert_eq!(rt; found.body.as_slice(), &CUT[from..len.min(10)], "at {len}");
+    }
+    assert!(rt; chunk_data(rt.alloc(), CUT)?.whole);
+    Ok(())
+}
+
+/// Bytes that are no chunked body, and the first wrong byte.
+const WRONG: [(&[u8], usize); 10] = [
+    (b"g", 0),
+    (b"5x", 1),
+    (b"5 \r\n", 1),
+    (b"5\n", 1),
+    (b"1\r\nab", 4),
+    (b"0\r\n\n", 3),
+    (b"0\r\nA b\r\n", 4),
+    (b"0\r\n: b\r\n", 3),
+    (b"1;\x7f", 2),
+    (b"10000000000000000\r\n", 16),
+];
+
+#[test]
+fn the_first_wrong_byte_of_a_chunked_body_is_told(rt: HostRuntime) -> Result<(), Fail> {
+    for (bytes, want) in WRONG {
+        match chunk_data(rt.alloc(), bytes) {
+            Err(fault) => assert_eq!(rt; fault, ChunkFault::Form { offset: want }, "at {bytes:?}"),
+            Ok(_) => assert!(rt; false, "a fault at {bytes:?}"),
+        }
+    }
+    let largest = chunk_data(rt.alloc(), b"ffffffffffffffff\r\nab")?;
+    assert!(rt; !largest.whole);
+    assert_eq!(rt; largest.body.as_slice(), b"ab".as_slice());
     Ok(())
 }
