@@ -1,0 +1,3 @@
+pub mod Codings
+pub mod Heads
+pub mod Places
