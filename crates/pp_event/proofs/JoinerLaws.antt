@@ -8,18 +8,13 @@ use Rattle.pp_event.specs.declared.item.Item.TheVariants as item
 use Rattle.pp_event.specs.Told.{Told, Called, Pieced}
 use Rattle.pp_event.specs.Turns.{slot}
 use Rattle.pp_event.specs.Joined.{joined_from, bytes_after, joined, joined_bytes}
-use Rattle.pp_event.specs.Joiner.{SpanParts, no_parts, parts_of, with_piece, with_event, item_of, after_events, nothing_joined, open_bytes}
+use Rattle.pp_event.specs.Joiner.{listed, items_taken, SpanParts, no_parts, parts_of, with_piece, with_event, item_of, after_events, nothing_joined, open_bytes}
 
 -- a write outside a list changes nothing
 pub set-outside : {X : Type 0} (xs : List X) (i : ℕ) (x : X) → length xs ≤ i → set xs i x ≡ xs
 set-outside [] i x h = refl
 set-outside (y ∷ xs) zero x h = absurd (omega arith)
 set-outside (y ∷ xs) (suc i) x h = ap (λ (l : List _). y ∷ l) (set-outside xs i x (omega arith))
-
--- the list of an answer
-abbrev pub listed : Option Item → List Item
-listed None = []
-listed (Some i) = i ∷ []
 
 -- where the spans have begun
 abbrev pub begun_of : List SpanParts → List (Option ℕ)
@@ -46,11 +41,6 @@ joined_from-event spans (Pieced span at part true answer) log =
 joined_from-event spans (Pieced span at part false answer) log =
     ap (λ (f : Option ℕ). joined_from (set (begun_of spans) span (Some (unwrap_or f at))) log) (slot-begun spans span)
     ∙ ap (λ (b : List (Option ℕ)). joined_from b log) (sym (begun-set spans span (with_piece (parts_of spans span) at part false)))
-
--- what a joiner answers to the events of a log, one after the other
-abbrev pub items_taken : List SpanParts → List Told → List Item
-items_taken spans [] = []
-items_taken spans (e ∷ log) = listed (item_of spans e) ++ items_taken (with_event spans e) log
 
 -- these are its joined items
 pub items_taken-joined : (spans : List SpanParts) (log : List Told) → items_taken spans log ≡ joined_from (begun_of spans) log

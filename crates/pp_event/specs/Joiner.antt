@@ -1,5 +1,5 @@
 -- What a joiner knows: for each span what came of it. One event after the other gives the joined items and bytes.
-use Rattle.std.specs.Prelude.{ℕ, ◌+◌, List, [], ◌++◌, Option, Some, None, Bool, true, false, length, fold, slice_index_or, slice_set, unwrap_or, replicate, if◌then◌else◌}
+use Rattle.std.specs.Prelude.{ℕ, ◌+◌, List, [], ◌∷◌, ◌++◌, Option, Some, None, Bool, true, false, length, fold, slice_index_or, slice_set, unwrap_or, replicate, if◌then◌else◌}
 use Rattle.pp_event.specs.declared.item.Item.{Item}
 use Rattle.pp_event.specs.declared.item.Item.TheVariants as item
 use Rattle.pp_event.specs.Told.{Told, Called, Pieced}
@@ -48,7 +48,17 @@ nothing_joined = replicate 32 no_parts
 abbrev pub after_events : List SpanParts → List Told → List SpanParts
 after_events spans log = fold with_event spans log
 
--- a piece ends below 2^64
+-- the list of an answer
+abbrev pub listed : Option Item → List Item
+listed None = []
+listed (Some i) = i ∷ []
+
+-- what a joiner answers to the events of a log, one after the other
+abbrev pub items_taken : List SpanParts → List Told → List Item
+items_taken spans [] = []
+items_taken spans (e ∷ log) = listed (item_of spans e) ++ items_taken (with_event spans e) log
+
+-- where an event's piece ends
 abbrev pub end_of : Told → ℕ
 end_of (Called code value at values answer) = 0
 end_of (Pieced span at part last answer) = at + length part
