@@ -1,5 +1,6 @@
 // A host that keeps the log of another one.
-ghost use Rattle.std.specs.Prelude.{◌≡◌, ◌<◌, ◌+◌, OnOk, vec_len, vec_capacity, [], map};
+ghost use Rattle.std.specs.Prelude.{◌≡◌, ◌<◌, ◌+◌, OnOk, vec_len, vec_capacity, [], ◌∷◌, ◌++◌, map};
+ghost use Rattle.pp_event.specs.declared.host.Reply.TheVariants.{Is};
 ghost use Rattle.pp_event.specs.Told.{told};
 
 use crate::event::Event;
@@ -48,10 +49,24 @@ impl<'a, H: Host<'a>> Recorded<'a, H> {
         self.events.reserve(1)?;
         Ok(())
     }
+
+    // Puts an event last in the log, where there is memory for it, and passes its answer on.
+    fn keep(&mut self, event: Event<'a>, answer: u32) -> Reply
+        requires { vec_len self.old.events < vec_capacity self.old.events }
+        ensures passed { result ≡ Is answer }
+        ensures kept { self.new.events.items ≡ self.old.events.items ++ event.entry ∷ [] }
+        ensures inner { self.new.inner ≡ self.old.inner }
+        ensures refused { self.new.refused ≡ self.old.refused }
+    {
+        match self.events.push(event) {
+            Ok(()) => Reply::Is(answer),
+            Err(_) => unreachable!(),
+        }
+    }
 }
 
 impl<'a, H: Host<'a>> Host<'a> for Recorded<'a, H> {
-    ghost use Rattle.std.specs.Prelude.{List, [], ◌∷◌, ◌++◌, Some, min, ◌-◌, ◌^◌};
+    ghost use Rattle.std.specs.Prelude.{List, Some, min, ◌-◌, ◌^◌};
     ghost use Rattle.pp_event.specs.Told.{Told};
 
     ghost View = { List Told × H.View };
@@ -80,10 +95,7 @@ impl<'a, H: Host<'a>> Host<'a> for Recorded<'a, H> {
                     props: props.copy(),
                     answer,
                 };
-                match self.events.push(event) {
-                    Ok(()) => Reply::Is(answer),
-                    Err(_) => unreachable!(),
-                }
+                self.keep(event, answer)
             }
             Reply::NoMemory => Reply::NoMemory,
         }
@@ -103,10 +115,7 @@ impl<'a, H: Host<'a>> Host<'a> for Recorded<'a, H> {
                     last,
                     answer,
                 };
-                match self.events.push(event) {
-                    Ok(()) => Reply::Is(answer),
-                    Err(_) => unreachable!(),
-                }
+                self.keep(event, answer)
             }
             Reply::NoMemory => Reply::NoMemory,
         }

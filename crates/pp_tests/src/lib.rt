@@ -1,0 +1,5 @@
+//! The tests of the crates below.
+#![tactic(auto)]
+
+#[cfg(test)]
+mod event;
