@@ -56,10 +56,14 @@ seven = record { before = []; after = []; span = 0; from = 1; part = 98 ∷ []; 
 a_pause : pieces (item.Pause 21 2 ∷ []) 0 (ended (Paused 21) 2 (Some 0) (98 ∷ []) (item.Pause 21 2 ∷ [])) (97 ∷ 33 ∷ 98 ∷ []) ≡ Pieced 0 0 (97 ∷ 33 ∷ []) false 0 ∷ []
 a_pause = refl
 
--- once resumed, `bc` goes on, and `d` closes the span
+-- once resumed, `bc` goes on, and then `d` closes the span with an empty last piece
 bc : pieces [] 2 (ended Waiting 4 (Some 0) [] (item.Pause 21 2 ∷ [])) (98 ∷ 99 ∷ []) ≡ Pieced 0 2 (98 ∷ 99 ∷ []) false 0 ∷ []
 bc = refl
 
+closed : pieces (item.Span 0 0 4 ∷ []) 4 (ended Waiting 5 None [] (item.Pause 21 2 ∷ item.Span 0 0 4 ∷ [])) (100 ∷ []) ≡ Pieced 0 4 [] true 0 ∷ []
+closed = refl
+
+-- joined they are one span, with all its bytes
 paused : joined (Pieced 0 0 (97 ∷ 33 ∷ []) false 0 ∷ Pieced 0 2 (98 ∷ 99 ∷ []) false 0 ∷ Pieced 0 4 [] true 0 ∷ []) ≡ item.Span 0 0 4 ∷ []
 paused = refl
 
