@@ -1,4 +1,3 @@
-pub mod ChainLaws
 pub mod EachLemmas
 pub mod PlainLaws
 pub mod WholeLaws

@@ -15,8 +15,9 @@ use Rattle.pp_graph.specs.declared.node.Code.{Code}
 use Rattle.pp_graph.specs.declared.node.Other.{Other}
 use Rattle.pp_graph.specs.declared.node.Kind.{Kind}
 use Rattle.pp_graph.specs.declared.node.Kind.TheVariants.{Match, Invoke}
-use Rattle.pp_mean.specs.Run.{Config, Turn}
-use Rattle.pp_mean.specs.Nodes.{to, kind_turn, match_turn, key_turn, common, reach, best, longer, goes_on}
+use Rattle.pp_event.specs.Run.{Config, Turn}
+use Rattle.pp_event.specs.Turns.{to}
+use Rattle.pp_mean.specs.Nodes.{kind_turn, match_turn, key_turn, common, reach, best, longer, goes_on}
 use Rattle.pp_mean.specs.Plain.{ArePlainKeys, IsPlainKind}
 use Rattle.pp_mean.specs.Steps.{plain_target, begins_with, BeginsWith, HaveTargetsBelow}
 

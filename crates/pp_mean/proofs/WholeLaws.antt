@@ -1,5 +1,5 @@
 -- The loop of `run_whole`: the run so far, and the nodes that it has stood at.
-use Rattle.std.proofs.Common.{◌⊎◌, subst, ◌≡◌, ℕ, zero, suc, ◌+◌, ◌-◌, ◌*◌, ◌≤◌, ◌<◌, List, [], ◌∷◌, ◌++◌, Option, Some, None, Bool, true, false, cond, refl, sym, ◌∙◌, ap, arith, length, get_or, set, drop, zero-le, eqb, map, length-set, append-nil, add-zero, inl, inr}
+use Rattle.std.proofs.Common.{◌⊎◌, subst, ◌≡◌, ℕ, zero, suc, ◌+◌, ◌-◌, ◌*◌, ◌≤◌, ◌<◌, List, [], ◌∷◌, ◌++◌, Option, Some, None, Bool, true, false, cond, refl, sym, ◌∙◌, ap, arith, length, get_or, set, drop, zero-le, eqb, map, length-set, append-nil, add-zero, inl, inr, replicate}
 use Rattle.std.specs.Prelude.{slice_get}
 use Rattle.std.specs.List.{Contains}
 use Rattle.std.proofs.lemmas.List.{get_or-set_same, get_or-set_other, map-append, drop-drop}
@@ -9,15 +9,18 @@ use Rattle.std.proofs.lemmas.Option.{slice_get_cases, slice_get-get_or}
 use Rattle.std.proofs.lemmas.Grind.{get_or_default_zero}
 use Rattle.pp_graph.specs.declared.node.Node.{Node}
 use Rattle.pp_graph.specs.Plan.{Plan, IsWellFormed, FitsIn}
-use Rattle.pp_mean.specs.declared.item.Item.{Item}
-use Rattle.pp_mean.specs.declared.item.Item.TheVariants.{Call}
-use Rattle.pp_mean.specs.Chain.{Move, On, Over, stages, after}
-use Rattle.pp_mean.specs.Run.{Config, Turn, Asks, Rests, Breaks, Stage, Result, Waiting, Broken, move_by, by_list}
-use Rattle.pp_mean.proofs.ChainLaws.{after_on, stages_on, over_after, ended_stages}
-use Rattle.pp_mean.specs.Nodes.{to, graph_turn, node_turn, kind_turn}
+use Rattle.pp_event.specs.declared.item.Item.{Item}
+use Rattle.pp_event.specs.declared.item.Item.TheVariants.{Call}
+use Rattle.pp_event.specs.Chain.{Move, On, Over, stages, after}
+use Rattle.pp_event.specs.Run.{Config, Turn, Asks, Rests, Fails, Stage, RunResult, Waiting, Failed, move_by}
+use Rattle.pp_event.specs.Answers.{by_list}
+use Rattle.pp_event.specs.Loops.{stand, NoneTwice}
+use Rattle.pp_event.specs.Turns.{to}
+use Rattle.pp_event.proofs.ChainLaws.{after_on, stages_on, over_after, ended_stages}
+use Rattle.pp_mean.specs.Nodes.{graph_turn, node_turn, kind_turn}
 use Rattle.pp_mean.specs.Steps.{BeginsWith}
 use Rattle.pp_mean.specs.declared.whole.WholeRun.{WholeRun}
-use Rattle.pp_mean.specs.Whole.{moves, begin, stand, stands, NoneTwice, IsEnd, Shows, IsRun, ComesBack}
+use Rattle.pp_mean.specs.Whole.{moves, begin, stands, IsEnd, Shows, IsRun, ComesBack}
 
 -- the byte at a place comes first in what is left from there
 pub begins-drop : (bytes : List ℕ) (at : ℕ) → BeginsWith (slice_get bytes at) (drop at bytes)
@@ -27,11 +30,12 @@ begins-drop (b ∷ bytes) zero = (bytes, refl)
 begins-drop (b ∷ bytes) (suc at) = begins-drop bytes at
 
 -- where the code stands
-abbrev pub config_at : ℕ → ℕ → Config
-config_at node at = record { node = node; at = at; carried = 0; values = [] }
+abbrev pub config_at : Plan → ℕ → ℕ → Config
+config_at g node at = record { node = node; at = at; carried = 0; values = []; spans = replicate (length g.spans) None }
 
-abbrev pub stage_at : List ℕ → List Item → ℕ → ℕ → Stage
-stage_at bytes items node at = record { config = config_at node at; rest = drop at bytes; items = items }
+-- where its run stands
+abbrev pub stage_at : Plan → List ℕ → List Item → ℕ → ℕ → Stage
+stage_at g bytes items node at = record { config = config_at g node at; rest = drop at bytes; items = items; resumes = 0 }
 
 -- seen has at + 1 just at the nodes where the run stood at this place
 pub record Marks (seen : List ℕ) (met : List (ℕ × ℕ)) (at : ℕ) : Type 0 where
@@ -120,7 +124,7 @@ marks_took seen met at m = record {
 -- the run on g has come to a node and a place with these items, and seen marks where it stood
 pub record Comes (g : Plan) (bytes : List ℕ) (items : List Item) (node at : ℕ) (seen : List ℕ) : Type 0 where
   pub moves_made : ℕ
-  pub there : after (moves g) moves_made (begin g bytes) ≡ Some (stage_at bytes items node at)
+  pub there : after (moves g) moves_made (begin g bytes) ≡ Some (stage_at g bytes items node at)
   pub once : NoneTwice (stands g bytes moves_made)
   pub marks : Marks seen (stands g bytes moves_made) at
   pub long : length seen ≡ length g.nodes
@@ -134,15 +138,15 @@ stands_on g bytes n s e = ap (map stand) (stages_on (moves g) n (begin g bytes) 
 
 -- it goes on from a node that isn't marked
 comes_on : (g : Plan) (bytes : List ℕ) (items more : List Item) (node target at place : ℕ) (seen : List ℕ) → (c : Comes g bytes items node at seen) →
-    (get_or seen node 0 ≡ at + 1 → ⊥) → moves g (stage_at bytes items node at) ≡ On (stage_at bytes more target place) → target < length g.nodes → place ≤ length bytes →
+    (get_or seen node 0 ≡ at + 1 → ⊥) → moves g (stage_at g bytes items node at) ≡ On (stage_at g bytes more target place) → target < length g.nodes → place ≤ length bytes →
     Marks (set seen node (at + 1)) (stands g bytes c.moves_made ++ (node, at) ∷ []) place →
     Comes g bytes more target place (set seen node (at + 1))
 comes_on g bytes items more node target at place seen c fresh e t p m =
     let met : List (ℕ × ℕ) = stands g bytes c.moves_made in
-    let longer : stands g bytes (suc c.moves_made) ≡ met ++ (node, at) ∷ [] = stands_on g bytes c.moves_made (stage_at bytes items node at) c.there in
+    let longer : stands g bytes (suc c.moves_made) ≡ met ++ (node, at) ∷ [] = stands_on g bytes c.moves_made (stage_at g bytes items node at) c.there in
     record {
       moves_made = suc c.moves_made;
-      there = after_on (moves g) c.moves_made (begin g bytes) (stage_at bytes items node at) (stage_at bytes more target place) c.there e;
+      there = after_on (moves g) c.moves_made (begin g bytes) (stage_at g bytes items node at) (stage_at g bytes more target place) c.there e;
       once = subst NoneTwice (sym longer) (NoneTwice-one_more met (node, at) c.once (λ h. fresh (c.marks.met_marked node (omega (arith, c.long, c.node_in)) h)));
       marks = subst (λ (l : List (ℕ × ℕ)). Marks (set seen node (at + 1)) l place) (sym longer) m;
       long = length-set seen node (at + 1) ∙ c.long;
@@ -155,31 +159,31 @@ pub turn_at : (g : Plan) (c : Config) (rest : List ℕ) (n : Node) (t : Turn) �
 turn_at g c rest n t e h = ap (λ (o : Option Node). node_turn o c rest) e ∙ h
 
 move_goes : (g : Plan) (bytes : List ℕ) (items : List Item) (node at target k place : ℕ) → at + k ≡ place →
-    graph_turn g (config_at node at) (drop at bytes) ≡ to (config_at node at) target k 0 →
-    moves g (stage_at bytes items node at) ≡ On (stage_at bytes items target place)
+    graph_turn g (config_at g node at) (drop at bytes) ≡ to (config_at g node at) target k 0 →
+    moves g (stage_at g bytes items node at) ≡ On (stage_at g bytes items target place)
 move_goes g bytes items node at target k place e h =
-    let on : List Item → List ℕ → ℕ → Move Stage Result = λ i l p. On (record { config = config_at target p; rest = l; items = i }) in
-    ap (move_by (by_list []) (stage_at bytes items node at)) h
+    let on : List Item → List ℕ → ℕ → Move Stage RunResult = λ i l p. On (record { config = config_at g target p; rest = l; items = i; resumes = 0 }) in
+    ap (move_by (by_list []) (stage_at g bytes items node at)) h
     ∙ ap (λ (i : List Item). on i (drop k (drop at bytes)) (at + k)) (append-nil items)
     ∙ ap (λ (l : List ℕ). on items l (at + k)) (drop-drop k at bytes)
     ∙ ap (λ (p : ℕ). on items (drop p bytes) p) e
 
 move_asks : (g : Plan) (bytes : List ℕ) (items : List Item) (node at target host : ℕ) →
-    graph_turn g (config_at node at) (drop at bytes) ≡ Asks host 0 (λ answer. config_at target at) →
-    moves g (stage_at bytes items node at) ≡ On (stage_at bytes (items ++ Call host 0 at [] 0 ∷ []) target at)
-move_asks g bytes items node at target host h = ap (move_by (by_list []) (stage_at bytes items node at)) h
+    graph_turn g (config_at g node at) (drop at bytes) ≡ Asks host 0 (λ answer. config_at g target at) →
+    moves g (stage_at g bytes items node at) ≡ On (stage_at g bytes (items ++ Call host 0 at [] 0 ∷ []) target at)
+move_asks g bytes items node at target host h = ap (move_by (by_list []) (stage_at g bytes items node at)) h
 
 -- the run ends at a node that isn't marked
-comes_over : (g : Plan) (bytes : List ℕ) (items : List Item) (node at : ℕ) (seen : List ℕ) (w : WholeRun) (r : Result) → Comes g bytes items node at seen →
-    (get_or seen node 0 ≡ at + 1 → ⊥) → moves g (stage_at bytes items node at) ≡ Over r →
+comes_over : (g : Plan) (bytes : List ℕ) (items : List Item) (node at : ℕ) (seen : List ℕ) (w : WholeRun) (r : RunResult) → Comes g bytes items node at seen →
+    (get_or seen node 0 ≡ at + 1 → ⊥) → moves g (stage_at g bytes items node at) ≡ Over r →
     Shows r w → IsRun g bytes w
 comes_over g bytes items node at seen w r c fresh e shows =
     let met : List (ℕ × ℕ) = stands g bytes c.moves_made in
-    let longer : stands g bytes (suc c.moves_made) ≡ met ++ (node, at) ∷ [] = stands_on g bytes c.moves_made (stage_at bytes items node at) c.there in
+    let longer : stands g bytes (suc c.moves_made) ≡ met ++ (node, at) ∷ [] = stands_on g bytes c.moves_made (stage_at g bytes items node at) c.there in
     record {
       moves_made = suc c.moves_made;
       result = r;
-      ended = over_after (moves g) c.moves_made (begin g bytes) (stage_at bytes items node at) r c.there e;
+      ended = over_after (moves g) c.moves_made (begin g bytes) (stage_at g bytes items node at) r c.there e;
       once = subst NoneTwice (sym longer) (NoneTwice-one_more met (node, at) c.once (λ h. fresh (c.marks.met_marked node (omega (arith, c.long, c.node_in)) h)));
       shows = shows;
     }
@@ -255,10 +259,10 @@ module _ (g : Plan) (bytes : List ℕ) (items : List Item) (node at : ℕ) (seen
       Comes g bytes items target (at + 1) (set seen node (at + 1)) × (left (length bytes) (at + 1) (set seen node (at + 1)) < left (length bytes) at seen)
   takes_byte target takes turn none t below =
       let inside : at < length bytes = in_bytes takes none t in
-      let one : kind_turn n.kind (config_at node at) (drop at bytes) ≡ to (config_at node at) target 1 0 =
-      turn (config_at node at) (drop at bytes) begins ∙ ap (λ (b : Bool). to (config_at node at) target (cond b 1 0) 0) t in (
+      let one : kind_turn n.kind (config_at g node at) (drop at bytes) ≡ to (config_at g node at) target 1 0 =
+      turn (config_at g node at) (drop at bytes) begins ∙ ap (λ (b : Bool). to (config_at g node at) target (cond b 1 0) 0) t in (
         comes_on g bytes items items node target at (at + 1) seen turning.come turning.fresh
-            (move_goes g bytes items node at target 1 (at + 1) refl (turn_at g (config_at node at) (drop at bytes) n _ turning.node_is one))
+            (move_goes g bytes items node at target 1 (at + 1) refl (turn_at g (config_at g node at) (drop at bytes) n _ turning.node_is one))
             below (omega arith) (marks_took (set seen node (at + 1)) (stands g bytes turning.come.moves_made ++ (node, at) ∷ []) at stood),
         left_on (length bytes) at node seen inside,
       )
@@ -267,10 +271,10 @@ module _ (g : Plan) (bytes : List ℕ) (items : List Item) (node at : ℕ) (seen
       takes ≡ false → target < length g.nodes →
       Comes g bytes items target at (set seen node (at + 1)) × (left (length bytes) at (set seen node (at + 1)) < left (length bytes) at seen)
   takes_none target takes turn t below =
-      let none : kind_turn n.kind (config_at node at) (drop at bytes) ≡ to (config_at node at) target 0 0 =
-      turn (config_at node at) (drop at bytes) begins ∙ ap (λ (b : Bool). to (config_at node at) target (cond b 1 0) 0) t in (
+      let none : kind_turn n.kind (config_at g node at) (drop at bytes) ≡ to (config_at g node at) target 0 0 =
+      turn (config_at g node at) (drop at bytes) begins ∙ ap (λ (b : Bool). to (config_at g node at) target (cond b 1 0) 0) t in (
         comes_on g bytes items items node target at at seen turning.come turning.fresh
-            (move_goes g bytes items node at target 0 at (add-zero at) (turn_at g (config_at node at) (drop at bytes) n _ turning.node_is none))
+            (move_goes g bytes items node at target 0 at (add-zero at) (turn_at g (config_at g node at) (drop at bytes) n _ turning.node_is none))
             below turning.come.at_in stood,
         left_stay (length bytes) at node seen in_seen turning.fresh,
       )
@@ -280,7 +284,7 @@ module _ (g : Plan) (bytes : List ℕ) (items : List Item) (node at : ℕ) (seen
       Comes g bytes (items ++ Call host 0 at [] 0 ∷ []) target at (set seen node (at + 1)) × (left (length bytes) at (set seen node (at + 1)) < left (length bytes) at seen)
   asks target host turn below = (
     comes_on g bytes items (items ++ Call host 0 at [] 0 ∷ []) node target at at seen turning.come turning.fresh
-        (move_asks g bytes items node at target host (turn_at g (config_at node at) (drop at bytes) n _ turning.node_is (turn (config_at node at) (drop at bytes) begins)))
+        (move_asks g bytes items node at target host (turn_at g (config_at g node at) (drop at bytes) n _ turning.node_is (turn (config_at g node at) (drop at bytes) begins)))
         below turning.come.at_in stood,
     left_stay (length bytes) at node seen in_seen turning.fresh,
   )
@@ -288,17 +292,17 @@ module _ (g : Plan) (bytes : List ℕ) (items : List Item) (node at : ℕ) (seen
   pub waits_there : (w : WholeRun) → ((c : Config) (rest : List ℕ) → BeginsWith next rest → kind_turn n.kind c rest ≡ Rests (record c { carried = 0 })) →
       w.items ≡ items → IsEnd w.end node Waiting → w.at ≡ at → IsRun g bytes w
   waits_there w turn i e a =
-      comes_over g bytes items node at seen w (record { finish = Waiting; last = record { config = config_at node at; rest = []; items = items } })
+      comes_over g bytes items node at seen w (record { finish = Waiting; last = record { config = config_at g node at; rest = []; items = items; resumes = 0 } })
       turning.come turning.fresh
-      (ap (move_by (by_list []) (stage_at bytes items node at)) (turn_at g (config_at node at) (drop at bytes) n _ turning.node_is (turn (config_at node at) (drop at bytes) begins)))
+      (ap (move_by (by_list []) (stage_at g bytes items node at)) (turn_at g (config_at g node at) (drop at bytes) n _ turning.node_is (turn (config_at g node at) (drop at bytes) begins)))
       (record { items = i; end = e; at = a })
 
-  pub breaks_there : (w : WholeRun) (code : ℕ) → ((c : Config) (rest : List ℕ) → BeginsWith next rest → kind_turn n.kind c rest ≡ Breaks code) →
-      w.items ≡ items → IsEnd w.end node (Broken code) → w.at ≡ at → IsRun g bytes w
-  breaks_there w code turn i e a =
-      comes_over g bytes items node at seen w (record { finish = Broken code; last = stage_at bytes items node at })
+  pub fails_there : (w : WholeRun) (code : ℕ) → ((c : Config) (rest : List ℕ) → BeginsWith next rest → kind_turn n.kind c rest ≡ Fails code) →
+      w.items ≡ items → IsEnd w.end node (Failed code) → w.at ≡ at → IsRun g bytes w
+  fails_there w code turn i e a =
+      comes_over g bytes items node at seen w (record { finish = Failed code; last = stage_at g bytes items node at })
       turning.come turning.fresh
-      (ap (move_by (by_list []) (stage_at bytes items node at)) (turn_at g (config_at node at) (drop at bytes) n _ turning.node_is (turn (config_at node at) (drop at bytes) begins)))
+      (ap (move_by (by_list []) (stage_at g bytes items node at)) (turn_at g (config_at g node at) (drop at bytes) n _ turning.node_is (turn (config_at g node at) (drop at bytes) begins)))
       (record { items = i; end = e; at = a })
 
 -- an element that was read is no mark

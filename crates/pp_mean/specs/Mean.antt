@@ -1,13 +1,14 @@
 -- The meaning of a graph on a whole string.
-use Rattle.std.specs.Prelude.{ℕ, List}
+use Rattle.std.specs.Prelude.{ℕ, List, None, length, replicate}
+use Rattle.pp_event.specs.Run.{Config, Oracle, RunResult, RunEnds}
 use Rattle.pp_graph.specs.Plan.{Plan}
-use Rattle.pp_mean.specs.Run.{Config, Oracle, Result, RunEnds}
 use Rattle.pp_mean.specs.Nodes.{graph_turn}
 
--- the entry at place 0, with these values of the properties
+-- the entry at place 0, with these values of the properties, and no span open
 abbrev pub entry_with : Plan → List ℕ → Config
-entry_with g values = record { node = g.entry; at = 0; carried = 0; values = values }
+entry_with g values = record { node = g.entry; at = 0; carried = 0; values = values; spans = replicate (length g.spans) None }
 
--- the run of the graph on the string has this result: after some number of moves it has ended so
-abbrev pub Means : Plan → List ℕ → List ℕ → Oracle → Result → Type 0
-Means g values bytes oracle r = RunEnds (graph_turn g) oracle (entry_with g values) bytes r
+-- the run of the graph on the string, which passes so many pauses and ends at the next, has this result: after some
+-- number of moves it has ended so
+abbrev pub Means : Plan → List ℕ → List ℕ → Oracle → ℕ → RunResult → Type 0
+Means g values bytes oracle resumes r = RunEnds (graph_turn g) oracle (entry_with g values) bytes resumes r

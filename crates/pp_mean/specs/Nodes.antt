@@ -1,5 +1,5 @@
 -- What a node of a graph does at a configuration, with these bytes left. A match node reads whole keys.
-use Rattle.std.specs.Prelude.{ℕ, zero, suc, ◌+◌, ◌-◌, ◌*◌, List, [], ◌∷◌, Option, Some, None, Bool, true, false, ◌&&◌, ◌||◌, not, length, map, max, slice_get, slice_index, slice_set, nat_lt, nat_le, ◌==◌, if◌then◌else◌, unwrap_or, bit_and, bit_or, find}
+use Rattle.std.specs.Prelude.{ℕ, zero, suc, ◌+◌, ◌*◌, List, [], ◌∷◌, Option, Some, None, Bool, true, false, ◌&&◌, ◌||◌, not, length, map, max, slice_get, slice_index, nat_lt, ◌==◌, if◌then◌else◌, unwrap_or, bit_and, bit_or, find}
 use Rattle.std.specs.List.{list_any}
 use Rattle.pp_bytes.specs.Fold.{folded}
 use Rattle.pp_graph.specs.declared.node.Answer.{Answer}
@@ -12,7 +12,8 @@ use Rattle.pp_graph.specs.declared.node.Kind.{Kind}
 use Rattle.pp_graph.specs.declared.node.Kind.TheVariants.{Match, Invoke, Consume, SpanOpen, SpanClose, Pause, Fail}
 use Rattle.pp_graph.specs.declared.node.Node.{Node}
 use Rattle.pp_graph.specs.Plan.{Plan}
-use Rattle.pp_mean.specs.Run.{Config, Turn, Goes, Asks, Rests, Breaks, Unsaid, Machine}
+use Rattle.pp_event.specs.Run.{Config, Turn, Rests, Stops, Fails, Machine}
+use Rattle.pp_event.specs.Turns.{to, Effect, AsksHost, Answers, Sets, effect_turn, consume_turn, open_turn, close_turn}
 
 -- the length of the longest common prefix
 abbrev pub common : List ℕ → List ℕ → ℕ
@@ -34,6 +35,7 @@ abbrev pub longer : Key → Option Key → Key
 longer k None = k
 longer k (Some l) = if nat_lt (length k.bytes) (length l.bytes) then l else k
 
+-- the longest key of the list that fits
 abbrev pub best : List Key → List ℕ → Option Key
 best [] bytes = None
 best (k ∷ keys) bytes = if fits bytes k then Some (longer k (best keys bytes)) else best keys bytes
@@ -42,13 +44,10 @@ best (k ∷ keys) bytes = if fits bytes k then Some (longer k (best keys bytes))
 abbrev pub goes_on : List Key → List ℕ → Bool
 goes_on keys bytes = list_any (λ k. common k.bytes bytes == length bytes && nat_lt (length bytes) (length k.bytes)) keys
 
+-- there is none
 abbrev pub is_empty : {A : Type 0} → List A → Bool
 is_empty [] = true
 is_empty (x ∷ xs) = false
-
--- to a node, having taken so many bytes, with the number that the edge carries
-abbrev pub to : Config → ℕ → ℕ → ℕ → Turn
-to c node taken number = Goes (record { node = node; at = c.at + taken; carried = number; values = c.values }) taken []
 
 -- the otherwise, behind so many bytes, and one more where it is a skip
 abbrev pub other_turn : Config → Other → ℕ → Turn
@@ -81,6 +80,7 @@ waits keys peeks other bytes =
 abbrev pub rests_at : Config → List ℕ → Config
 rests_at c rest = record c { at = c.at + length rest; carried = 0 }
 
+-- a match node waits, or takes an edge
 abbrev pub match_turn : Config → List ℕ → List Key → List Peek → Other → List ℕ → Turn
 match_turn c rest keys peeks other bytes =
     if waits keys peeks other bytes then Rests (rests_at c rest) else key_turn c keys peeks other bytes (best keys bytes)
@@ -90,58 +90,39 @@ abbrev pub target_or : ℕ → Option Answer → ℕ
 target_or other None = other
 target_or other (Some a) = a.target
 
+-- where an answer leads
 abbrev pub answered : List Answer → ℕ → ℕ → ℕ
 answered answers other n = target_or other (find (λ (a : Answer). a.number == n) answers)
 
--- to a node without taking a byte
-abbrev pub moved : Config → ℕ → Turn
-moved c node = Goes (record c { node = node; carried = 0 }) 0 []
+-- what a code does, by the values of the properties and the number that was carried
+abbrev pub effect_of : List ℕ → ℕ → Code → Effect
+effect_of values carried (code.Call host) = AsksHost host
+effect_of values carried (code.Store prop) = Sets prop carried
+effect_of values carried (code.Load prop) = Answers (slice_index values prop)
+effect_of values carried (code.Update prop value) = Sets prop value
+effect_of values carried (code.Equal prop value) = Answers (if slice_index values prop == value then 1 else 0)
+effect_of values carried (code.And prop value) = Sets prop (bit_and (slice_index values prop) value)
+effect_of values carried (code.Or prop value) = Sets prop (bit_or (slice_index values prop) value)
+effect_of values carried (code.Test prop value) = Answers (if bit_and (slice_index values prop) value == value then 1 else 0)
+effect_of values carried (code.MulAdd prop base most) =
+    let product = slice_index values prop * base + carried in
+    if nat_lt most product then Answers 1 else Sets prop product
 
--- to a node, with a value of a property changed
-abbrev pub setting : Config → ℕ → ℕ → ℕ → Turn
-setting c node prop value = Goes (record { node = node; at = c.at; carried = 0; values = slice_set c.values prop value }) 0 []
-
--- what a code does; `edge` gives the node for an answer
-abbrev pub code_turn : Config → (ℕ → ℕ) → Code → Turn
-code_turn c edge (code.Call host) = Asks host c.carried (λ answer. record c { node = edge answer; carried = 0 })
-code_turn c edge (code.Store prop) = setting c (edge 0) prop c.carried
-code_turn c edge (code.Load prop) = moved c (edge (slice_index c.values prop))
-code_turn c edge (code.Update prop value) = setting c (edge 0) prop value
-code_turn c edge (code.Equal prop value) = moved c (edge (if slice_index c.values prop == value then 1 else 0))
-code_turn c edge (code.And prop value) = setting c (edge 0) prop (bit_and (slice_index c.values prop) value)
-code_turn c edge (code.Or prop value) = setting c (edge 0) prop (bit_or (slice_index c.values prop) value)
-code_turn c edge (code.Test prop value) = moved c (edge (if bit_and (slice_index c.values prop) value == value then 1 else 0))
-code_turn c edge (code.MulAdd prop base most) =
-    let product = slice_index c.values prop * base + c.carried in
-    if nat_lt most product then moved c (edge 1) else setting c (edge 0) prop product
-
--- behind all v bytes of a consume, and behind the n bytes that are left of them
-abbrev pub consumed : Config → ℕ → ℕ → ℕ → Config
-consumed c prop next v = record { node = next; at = c.at + v; carried = 0; values = slice_set c.values prop 0 }
-
-abbrev pub drained : Config → ℕ → ℕ → ℕ → Config
-drained c prop v n = record c { at = c.at + n; carried = 0; values = slice_set c.values prop (v - n) }
-
--- takes as many bytes as a property says
-abbrev pub consume_turn : Config → List ℕ → ℕ → ℕ → Turn
-consume_turn c rest prop next =
-    let v = slice_index c.values prop in
-    if nat_le v (length rest) then Goes (consumed c prop next v) v [] else Rests (drained c prop v (length rest))
-
--- spans and pauses are not said yet
+-- what a node of a kind does
 abbrev pub kind_turn : Kind → Config → List ℕ → Turn
 kind_turn (Match fold keys peeks other) c rest = match_turn c rest keys peeks other (map (folded fold) rest)
-kind_turn (Invoke what answers other) c rest = code_turn c (answered answers other) what
+kind_turn (Invoke what answers other) c rest = effect_turn c (answered answers other) (effect_of c.values c.carried what)
 kind_turn (Consume prop next) c rest = consume_turn c rest prop next
-kind_turn (SpanOpen span next) c rest = Unsaid
-kind_turn (SpanClose span next) c rest = Unsaid
-kind_turn (Pause number reason next) c rest = Unsaid
-kind_turn (Fail number reason) c rest = Breaks number
+kind_turn (SpanOpen span next) c rest = open_turn c span next
+kind_turn (SpanClose span next) c rest = close_turn c span next
+kind_turn (Pause number reason next) c rest = Stops number (record c { node = next; carried = 0 })
+kind_turn (Fail number reason) c rest = Fails number
 
 -- a place without a node has no move
 abbrev pub node_turn : Option Node → Config → List ℕ → Turn
-node_turn None c rest = Breaks 0
+node_turn None c rest = Fails 0
 node_turn (Some n) c rest = kind_turn n.kind c rest
 
+-- a graph as a machine
 abbrev pub graph_turn : Plan → Machine
 graph_turn g c rest = node_turn (slice_get g.nodes c.node) c rest

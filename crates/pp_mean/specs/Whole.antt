@@ -1,45 +1,38 @@
 -- What `run_whole` promises.
-use Rattle.std.specs.Prelude.{◌≡◌, ℕ, List, [], ◌∷◌, Option, Some, map, slice_get}
+use Rattle.std.specs.Prelude.{◌≡◌, ℕ, List, [], Option, Some, map, slice_get}
 use Rattle.std.specs.List.{Contains}
 use Rattle.pp_graph.specs.Plan.{Plan}
-use Rattle.pp_mean.specs.Chain.{Move, run_for, stages, after}
-use Rattle.pp_mean.specs.Run.{Stage, Result, Finish, Waiting, Broken, move, start, by_list}
+use Rattle.pp_event.specs.Chain.{Move, run_for, stages, after}
+use Rattle.pp_event.specs.Run.{Stage, RunResult, Finish, Waiting, Failed, move, start}
+use Rattle.pp_event.specs.Answers.{by_list}
+use Rattle.pp_event.specs.Loops.{stand, NoneTwice}
 use Rattle.pp_mean.specs.Nodes.{graph_turn}
 use Rattle.pp_mean.specs.Mean.{entry_with}
 use Rattle.pp_mean.specs.declared.whole.End.{End}
-use Rattle.pp_mean.specs.declared.whole.End.TheVariants.{Waits, Failed}
+use Rattle.pp_mean.specs.declared.whole.End.TheVariants as end
 use Rattle.pp_mean.specs.declared.whole.WholeRun.{WholeRun}
 use Rattle.pp_mean.specs.declared.whole.MeanFault.{MeanFault}
 use Rattle.pp_mean.specs.declared.whole.MeanFault.TheVariants.{Loop, NoMemory}
 
 -- the moves of a run of the graph, each answer being 0
-abbrev pub moves : Plan → Stage → Move Stage Result
+abbrev pub moves : Plan → Stage → Move Stage RunResult
 moves g = move (graph_turn g) (by_list [])
 
 -- the beginning of the run on these bytes, without values
 abbrev pub begin : Plan → List ℕ → Stage
-begin g bytes = start (entry_with g []) bytes
-
--- where a run stands: the node and the place
-abbrev pub stand : Stage → ℕ × ℕ
-stand s = (s.config.node, s.config.at)
+begin g bytes = start (entry_with g []) bytes 0
 
 -- where the run stood before each of its first n moves
 abbrev pub stands : Plan → List ℕ → ℕ → List (ℕ × ℕ)
 stands g bytes n = map stand (stages (moves g) n (begin g bytes))
 
--- no element stands twice
-abbrev pub NoneTwice : {X : Type 0} → List X → Type 0
-NoneTwice [] = Unit {0}
-NoneTwice (x ∷ xs) = (Contains xs x → ⊥) × NoneTwice xs
-
 -- an end of the code, for a run that ended so at this node
 abbrev pub IsEnd : End → ℕ → Finish → Type 0
-IsEnd (Waits n) node finish = (n ≡ node) × (finish ≡ Waiting)
-IsEnd (Failed n code) node finish = (n ≡ node) × (finish ≡ Broken code)
+IsEnd (end.Waits n) node finish = (n ≡ node) × (finish ≡ Waiting)
+IsEnd (end.Failed n code) node finish = (n ≡ node) × (finish ≡ Failed code)
 
 -- the code's items, end and place are those of a result
-pub record Shows (r : Result) (w : WholeRun) : Type 0 where
+pub record Shows (r : RunResult) (w : WholeRun) : Type 0 where
   pub items : w.items ≡ r.last.items
   pub end : IsEnd w.end r.last.config.node r.finish
   pub at : w.at ≡ r.last.config.at
@@ -47,7 +40,7 @@ pub record Shows (r : Result) (w : WholeRun) : Type 0 where
 -- the run ended so, and came to no node twice at one place
 pub record IsRun (g : Plan) (bytes : List ℕ) (w : WholeRun) : Type 0 where
   pub moves_made : ℕ
-  pub result : Result
+  pub result : RunResult
   pub ended : run_for (moves g) moves_made (begin g bytes) ≡ Some result
   pub once : NoneTwice (stands g bytes moves_made)
   pub shows : Shows result w

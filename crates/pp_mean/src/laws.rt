@@ -1,22 +1,22 @@
 // Laws over the definitions, each the contract of a function without code.
 ghost use Rattle.std.specs.Prelude.{◌≡◌, ℕ, ◌+◌, List, Option, Some};
 ghost use Rattle.pp_graph.specs.Plan.{Plan};
-ghost use Rattle.pp_mean.specs.Chain.{run_for};
-ghost use Rattle.pp_mean.specs.Run.{Oracle, Stage, Result, move};
+ghost use Rattle.pp_event.specs.Chain.{run_for};
+ghost use Rattle.pp_event.specs.Run.{Oracle, Stage, RunResult, move};
 ghost use Rattle.pp_mean.specs.Nodes.{graph_turn};
 ghost use Rattle.pp_mean.specs.Mean.{Means};
 ghost use Rattle.pp_mean.specs.Whole.{ComesBack, IsRun};
 ghost use Rattle.pp_mean.specs.declared.whole.WholeRun.{WholeRun};
 
-/// A graph has at most one run on a string, whatever the values and answers.
+/// A graph has at most one run on a string, whatever the values, answers and resumes.
 pub fn at_most_one_run()
-    ensures { (g : Plan) (values bytes : List ℕ) (oracle : Oracle) (r q : Result) →
-        Means g values bytes oracle r → Means g values bytes oracle q → r ≡ q }
+    ensures { (g : Plan) (values bytes : List ℕ) (oracle : Oracle) (resumes : ℕ) (r q : RunResult) →
+        Means g values bytes oracle resumes r → Means g values bytes oracle resumes q → r ≡ q }
 {}
 
 /// More moves never change a run that has ended.
 pub fn more_moves()
-    ensures { (g : Plan) (oracle : Oracle) (more n : ℕ) (s : Stage) (r : Result) →
+    ensures { (g : Plan) (oracle : Oracle) (more n : ℕ) (s : Stage) (r : RunResult) →
         run_for (move (graph_turn g) oracle) n s ≡ Some r →
         run_for (move (graph_turn g) oracle) (more + n) s ≡ Some r }
 {}

@@ -1,7 +1,7 @@
 // What a node of a plain graph does at one place.
 ghost use Rattle.std.specs.Prelude.{◌≡◌, ◌<◌, ℕ, List, None, IfSome, length, []};
 ghost use Rattle.pp_graph.specs.Plan.{Plan, FitsIn};
-ghost use Rattle.pp_mean.specs.Run.{Config};
+ghost use Rattle.pp_event.specs.Run.{Config};
 ghost use Rattle.pp_mean.specs.Nodes.{kind_turn, match_turn};
 ghost use Rattle.pp_mean.specs.Plain.{IsPlainKind, ArePlainKeys};
 ghost use Rattle.pp_mean.specs.Steps.{plain_target, BeginsWith, IsTurn, NeedsNoByte, LeadsBelow, HaveTargetsBelow};
@@ -15,7 +15,7 @@ pub(crate) enum Step {
     Goes { node: u32, takes: bool },
     Asks { host: u32, node: u32 },
     Waits,
-    Breaks { code: u32 },
+    Fails { code: u32 },
 }
 
 // The node that the key of this byte leads to.
@@ -49,7 +49,7 @@ pub(crate) fn step_of(kind: &Kind, next: Option<u8>) -> Step
             host: *host,
             node: *other,
         },
-        Kind::Fail { code, .. } => Step::Breaks { code: *code },
+        Kind::Fail { code, .. } => Step::Fails { code: *code },
         _ => unreachable!(),
     }
 }

@@ -1,12 +1,12 @@
 // The run of a plain graph on a whole string.
 ghost use Rattle.std.specs.Prelude.{◌≡◌, ◌<◌, length, ℕ, Option, IfOk, IfErr, OnOk, slice_get, [], ◌∷◌, ◌++◌};
-ghost use Rattle.pp_mean.specs.declared.item.Item.TheVariants.{Call};
+ghost use Rattle.pp_event.specs.declared.item.Item.TheVariants.{Call};
 ghost use Rattle.pp_mean.specs.Plain.{IsPlain};
 ghost use Rattle.pp_mean.specs.Whole.{IsRun, ComesBack, IsLoop};
 
-use crate::item::{Item, Props};
 use crate::step::{Step, step_of};
 use pp_bytes::Listed;
+use pp_event::{Item, Props};
 use pp_graph::Graph;
 use std::alloc::{AllocError, Global};
 use thiserror::Error;
@@ -58,14 +58,14 @@ fn byte_at(bytes: &[u8], at: usize) -> Option<u8>
 }
 
 // One more call, answered 0.
-fn push_call(alloc: Global, items: &mut Vec<Item>, code: u32, at: u64) -> Result<(), AllocError>
+fn push_call(items: &mut Vec<Item>, code: u32, at: u64) -> Result<(), AllocError>
     ensures { OnOk result (items.new.items ≡ items.old.items ++ Call code 0 at [] 0 ∷ []) }
 {
     items.push(Item::Call {
         code,
         value: 0,
         at,
-        props: Props::none(alloc),
+        props: Props::none(),
         answer: 0,
     })?;
     Ok(())
@@ -112,7 +112,7 @@ pub fn run_whole(alloc: Global, graph: &Graph, bytes: &[u8]) -> Result<WholeRun,
                 }
             }
             Step::Asks { host, node: target } => {
-                push_call(alloc, &mut items, host, at as u64)?;
+                push_call(&mut items, host, at as u64)?;
                 node = target;
             }
             Step::Waits => {
@@ -122,7 +122,7 @@ pub fn run_whole(alloc: Global, graph: &Graph, bytes: &[u8]) -> Result<WholeRun,
                     at: at as u64,
                 });
             }
-            Step::Breaks { code } => {
+            Step::Fails { code } => {
                 return Ok(WholeRun {
                     items: Listed::of(items),
                     end: End::Failed { node, code },

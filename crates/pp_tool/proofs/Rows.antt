@@ -11,8 +11,8 @@ use Rattle.pp_graph.specs.declared.call.BuilderCall.TheVariants as call
 use Rattle.pp_graph.specs.Plan.{Plan}
 use Rattle.pp_graph.specs.Built.{built}
 use Rattle.pp_text.specs.Printed.{printed}
-use Rattle.pp_mean.specs.declared.item.Item.TheVariants.{Call}
-use Rattle.pp_mean.specs.Run.{Waiting, Result}
+use Rattle.pp_event.specs.declared.item.Item.TheVariants.{Call}
+use Rattle.pp_event.specs.Run.{Waiting, RunResult}
 use Rattle.pp_tool.specs.Capture.{capture_of, joined}
 use Rattle.pp_tool.specs.Report.{report_of}
 use Rattle.pp_tool.specs.Input.{RunsTo}
@@ -42,8 +42,8 @@ capture = refl
 cut : joined ((98 ∷ []) ∷ (97 ∷ []) ∷ (98 ∷ []) ∷ []) ≡ joined ((98 ∷ 97 ∷ 98 ∷ []) ∷ [])
 cut = refl
 
-abbrev result : Result
-result = record { finish = Waiting; last = record { config = record { node = 0; at = 3; carried = 0; values = [] }; rest = []; items = Call 0 0 2 [] 0 ∷ [] } }
+abbrev result : RunResult
+result = record { finish = Waiting; last = record { config = record { node = 0; at = 3; carried = 0; values = []; spans = [] }; rest = []; items = Call 0 0 2 [] 0 ∷ []; resumes = 0 } }
 
 -- the graph's run on it
 run : RunsTo graph ((98 ∷ 97 ∷ 98 ∷ []) ∷ []) result

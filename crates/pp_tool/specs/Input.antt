@@ -6,7 +6,8 @@ use Rattle.pp_graph.specs.Rules.{KeepsRules}
 use Rattle.pp_text.specs.Text.{Told, BeginWithText, IsWrongAt, IsTooLong}
 use Rattle.pp_text.specs.Outcome.{Breaks}
 use Rattle.pp_text.specs.Printed.{printed}
-use Rattle.pp_mean.specs.Run.{Result, by_list}
+use Rattle.pp_event.specs.Run.{RunResult}
+use Rattle.pp_event.specs.Answers.{by_list}
 use Rattle.pp_mean.specs.Mean.{Means}
 use Rattle.pp_mean.specs.Plain.{IsPlain}
 use Rattle.pp_mean.specs.Whole.{ComesBack}
@@ -54,8 +55,8 @@ pub record IsCapture (bytes : List ℕ) (parts : List (List ℕ)) : Type 0 where
   pub short : ArePackets parts
 
 -- the run of the graph on the joined parts, each answer being 0, has this result
-abbrev pub RunsTo : Plan → List (List ℕ) → Result → Type 0
-RunsTo g parts r = Means g [] (joined parts) (by_list []) r
+abbrev pub RunsTo : Plan → List (List ℕ) → RunResult → Type 0
+RunsTo g parts r = Means g [] (joined parts) (by_list []) 0 r
 
 -- this run comes to a node twice at one place
 abbrev pub RunsInLoop : Plan → List (List ℕ) → Type 0
@@ -104,7 +105,7 @@ pub record HasReport (bytes report : List ℕ) : Type 0 where
   pub g : Plan
   pub rest : List ℕ
   pub parts : List (List ℕ)
-  pub result : Result
+  pub result : RunResult
   pub graph : BeginsWithPlain bytes g rest
   pub capture : IsCapture rest parts
   pub run : RunsTo g parts result

@@ -2,7 +2,7 @@
 use Rattle.std.specs.Prelude.{◌≡◌, ◌≢◌, ◌⊎◌, ℕ, ◌<◌, ◌≤◌, List, [], ◌++◌, Option, Some, Bool, ◌==◌, Result, Ok, Err, IfErr, MatchResult, codes, decimal, length, flat_map}
 use Rattle.std.specs.Borrow.{Bor}
 use Rattle.pp_graph.specs.Plan.{Plan}
-use Rattle.pp_mean.specs.Run.{Result as RunResult}
+use Rattle.pp_event.specs.Run.{RunResult}
 use Rattle.pp_mean.specs.Plain.{IsPlain}
 use Rattle.pp_text.specs.declared.fault.TextFault.{TextFault}
 use Rattle.pp_text.specs.declared.fault.TextFault.TheVariants as fault

@@ -1,6 +1,6 @@
-use Rattle.pp_mean.specs.Run.{move}
+use Rattle.pp_event.specs.Run.{move}
 use Rattle.pp_mean.specs.Nodes.{graph_turn}
-use Rattle.pp_mean.proofs.ChainLaws.{more_moves as more}
+use Rattle.pp_event.proofs.ChainLaws.{more_moves as more}
 use Rattle.pp_mean.proofs.laws.more_moves.Goals as goal
 
 pub returns : goal.returns

@@ -1,7 +1,7 @@
 use Rattle.std.proofs.Common.{◌+◌, subst, set, List, sym, refl}
-use Rattle.pp_mean.specs.declared.item.Item.{Item}
+use Rattle.pp_event.specs.declared.item.Item.{Item}
 use Rattle.pp_mean.specs.declared.whole.End.TheVariants.{Waits, Failed}
-use Rattle.pp_mean.proofs.WholeLaws.{Comes, turning_from, fits_here, takes_byte, takes_none, asks, waits_there, breaks_there, either_run_or_loop}
+use Rattle.pp_mean.proofs.WholeLaws.{Comes, turning_from, fits_here, takes_byte, takes_none, asks, waits_there, fails_there, either_run_or_loop}
 use Rattle.pp_mean.proofs.whole.run_whole.Goals as goal
 
 pub run-smaller-then-takes : goal.run-smaller-then-takes
@@ -39,20 +39,20 @@ returns-in-Waits-clause-run c =
     let turning = turning_from _ _ _ _ _ _ _ c.index-nodes-node.result _ _ c.run.invariant.come c.run.invariant.same c.index.ensures c.if-index-at.false c.byte_at-next.ensures in
     waits_there _ _ _ _ _ _ _ _ turning _ c.in-Waits.ensures.turn c.of.ensures (refl, refl) refl
 
-pub returns-in-Breaks-clause-run : goal.returns-in-Breaks-clause-run
-returns-in-Breaks-clause-run c =
+pub returns-in-Fails-clause-run : goal.returns-in-Fails-clause-run
+returns-in-Fails-clause-run c =
     let turning = turning_from _ _ _ _ _ _ _ c.index-nodes-node.result _ _ c.run.invariant.come c.run.invariant.same c.index.ensures c.if-index-at.false c.byte_at-next.ensures in
-    breaks_there _ _ _ _ _ _ _ _ turning _ c.in-Breaks.code c.in-Breaks.ensures.turn c.of-in-Breaks.ensures (refl, refl) refl
+    fails_there _ _ _ _ _ _ _ _ turning _ c.in-Fails.code c.in-Fails.ensures.turn c.of-in-Fails.ensures (refl, refl) refl
 
 pub returns-in-Waits-clause-no_loop : goal.returns-in-Waits-clause-no_loop
 returns-in-Waits-clause-no_loop c node byte back =
     let turning = turning_from _ _ _ _ _ _ _ c.index-nodes-node.result _ _ c.run.invariant.come c.run.invariant.same c.index.ensures c.if-index-at.false c.byte_at-next.ensures in
     either_run_or_loop _ _ (record { items = c.of.result; end = Waits c.run.node; at = c.run.at }) node byte (waits_there _ _ _ _ _ _ _ _ turning _ c.in-Waits.ensures.turn c.of.ensures (refl, refl) refl) back
 
-pub returns-in-Breaks-clause-no_loop : goal.returns-in-Breaks-clause-no_loop
-returns-in-Breaks-clause-no_loop c node byte back =
+pub returns-in-Fails-clause-no_loop : goal.returns-in-Fails-clause-no_loop
+returns-in-Fails-clause-no_loop c node byte back =
     let turning = turning_from _ _ _ _ _ _ _ c.index-nodes-node.result _ _ c.run.invariant.come c.run.invariant.same c.index.ensures c.if-index-at.false c.byte_at-next.ensures in
-    either_run_or_loop _ _ (record { items = c.of-in-Breaks.result; end = Failed c.run.node c.in-Breaks.code; at = c.run.at }) node byte (breaks_there _ _ _ _ _ _ _ _ turning _ c.in-Breaks.code c.in-Breaks.ensures.turn c.of-in-Breaks.ensures (refl, refl) refl) back
+    either_run_or_loop _ _ (record { items = c.of-in-Fails.result; end = Failed c.run.node c.in-Fails.code; at = c.run.at }) node byte (fails_there _ _ _ _ _ _ _ _ turning _ c.in-Fails.code c.in-Fails.ensures.turn c.of-in-Fails.ensures (refl, refl) refl) back
 
 pub step_of-requires : goal.step_of-requires
 step_of-requires c =
