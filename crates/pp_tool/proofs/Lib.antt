@@ -4,10 +4,12 @@ pub mod CommandLemmas
 pub mod FaultLemmas
 pub mod FrontLemmas
 pub mod OneVerdict
+pub mod OrderLemmas
 pub mod PieceLemmas
 pub mod PrintLaws
 mod Rows
 pub mod ReadLemmas
+pub mod SomeVerdict
 pub mod StatusLemmas
 pub mod TextLemmas
 pub mod TraceLaws

@@ -35,6 +35,10 @@ Writes lines a (Refuses why before) = ⊥
 abbrev pub AtMostOne : {A : Type 0} → (A → Type 0) → Type 0
 AtMostOne Holds = (x y : _) → Holds x → Holds y → x ≡ y
 
+-- At least one: that there is none is absurd. Which one it is, no definition decides.
+abbrev pub AtLeastOne : {A : Type 0} → (A → Type 0) → Type 0
+AtLeastOne Holds = ¬ (¬ ((x : _) × Holds x))
+
 -- this one and no other
 abbrev pub IsOnly : {A : Type 0} → (A → Type 0) → A → Type 0
 IsOnly Holds one = Holds one × ((other : _) → Holds other → other ≡ one)

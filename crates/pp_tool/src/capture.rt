@@ -1,7 +1,8 @@
 // The capture of one connection behind a graph text.
-ghost use Rattle.std.specs.Prelude.{◌≡◌, ◌<◌, ◌↔◌, List, ℕ, [], length, drop, IfOk, IfSome, IsSome, IsTrue, MatchOption, MatchResult};
-ghost use Rattle.pp_capture.specs.Spelling.{Record, Begins, Carries, IsCapture as AreRecords};
+ghost use Rattle.std.specs.Prelude.{◌≡◌, ◌≢◌, ◌<◌, ◌↔◌, List, ℕ, [], length, drop, IfOk, IfSome, IfNone, IsSome, IsTrue, MatchOption, MatchResult};
+ghost use Rattle.pp_capture.specs.Spelling.{Record, Begins, Carries, Halts, IsCapture as AreRecords};
 ghost use Rattle.pp_capture.specs.Reading.{BeginWith};
+ghost use Rattle.pp_capture.specs.View.{view};
 ghost use Rattle.pp_tool.specs.declared.capture.CaptureFault.TheVariants.{NoMemory as no_memory};
 ghost use Rattle.pp_tool.specs.Capture.{IsCapture, parts_records, joined};
 
@@ -49,7 +50,7 @@ fn read_parts(alloc: Global, records: &[u8]) -> Result<Vec<u8>, CaptureFault>
         all.extend_from_slice(part)?;
         rest = after;
     }
-    if is_halt(rest) {
+    if is_at_halt(rest) {
         Ok(all)
     } else {
         Err(CaptureFault::Refused)
@@ -61,16 +62,13 @@ fn behind_begin(bytes: &[u8]) -> Option<&[u8]>
     ensures some { IfSome result (λ rest. (len : ℕ) × BeginWith bytes.now (Begins 0 [] []) len × (rest.now ≡ drop len bytes.now)) }
     ensures only { (len : ℕ) → BeginWith bytes.now (Begins 0 [] []) len → MatchOption result ⊥ (λ rest. rest.now ≡ drop len bytes.now) }
 {
-    match read_rec(bytes) {
-        Ok((
-            Rec::Begin {
-                conn: 0,
-                sets,
-                script,
-            },
-            len,
-        )) if sets.len() == 0 && script.len() == 0 => Some(&bytes[len..]),
-        _ => None,
+    let Ok((rec, len)) = read_rec(bytes) else {
+        return None;
+    };
+    if is_begin(&rec) {
+        Some(&bytes[len..])
+    } else {
+        None
     }
 }
 
@@ -81,18 +79,58 @@ fn part_in(bytes: &[u8]) -> Option<(&[u8], &[u8])>
     ensures only { (value : Record) (len : ℕ) → BeginWith bytes.now value len → IfSome result (λ p. (value ≡ Carries 0 p.0.now) × (p.1.now ≡ drop len bytes.now)) }
     ensures none { (part : List ℕ) (len : ℕ) → BeginWith bytes.now (Carries 0 part) len → IsSome result }
 {
-    match read_rec(bytes) {
-        Ok((Rec::Bytes { conn: 0, part }, len)) => Some((part, &bytes[len..])),
-        _ => None,
-    }
+    let Ok((rec, len)) = read_rec(bytes) else {
+        return None;
+    };
+    let part = part_of(rec)?;
+    Some((part, &bytes[len..]))
 }
 
 // Whether the bytes are the halt alone.
-fn is_halt(bytes: &[u8]) -> bool
+fn is_at_halt(bytes: &[u8]) -> bool
     ensures { IsTrue result ↔ AreRecords bytes.now [] }
 {
     match read_rec(bytes) {
-        Ok((Rec::Halt, len)) => len == bytes.len(),
-        _ => false,
+        Ok((rec, len)) => is_halt(&rec) && len == bytes.len(),
+        Err(_) => false,
+    }
+}
+
+// Whether connection 0 begins without sets and script.
+fn is_begin(rec: &Rec<'_>) -> bool
+    ensures { IsTrue result ↔ (view rec.now ≡ Begins 0 [] []) }
+{
+    match rec {
+        Rec::Begin {
+            conn,
+            sets,
+            script,
+        } => *conn == 0 && sets.len() == 0 && script.len() == 0,
+        Rec::Bytes { .. } | Rec::Resume { .. } | Rec::Finish { .. } | Rec::Halt => false,
+    }
+}
+
+// The part of a record of connection 0.
+fn part_of<'b>(rec: Rec<'b>) -> Option<&'b [u8]>
+    ensures some { IfSome result (λ part. view rec.entry ≡ Carries 0 part.now) }
+    ensures none { IfNone result ((part : List ℕ) → view rec.entry ≢ Carries 0 part) }
+{
+    match rec {
+        Rec::Bytes { conn: 0, part } => Some(part),
+        Rec::Bytes { .. }
+        | Rec::Begin { .. }
+        | Rec::Resume { .. }
+        | Rec::Finish { .. }
+        | Rec::Halt => None,
+    }
+}
+
+// Whether the record is the halt.
+fn is_halt(rec: &Rec<'_>) -> bool
+    ensures { IsTrue result ↔ (view rec.now ≡ Halts) }
+{
+    match rec {
+        Rec::Halt => true,
+        Rec::Begin { .. } | Rec::Bytes { .. } | Rec::Resume { .. } | Rec::Finish { .. } => false,
     }
 }

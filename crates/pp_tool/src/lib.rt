@@ -16,7 +16,9 @@ mod trace;
 mod words;
 
 pub use command::tool;
-pub use laws::{one_verdict, print_answers, print_decides, trace_answers, trace_refuses};
+pub use laws::{
+    one_verdict, print_answers, print_decides, some_verdict, trace_answers, trace_refuses,
+};
 pub use program::run_program;
 pub use status::Status;
 pub use words::{WordList, WordsFault};

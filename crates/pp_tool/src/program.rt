@@ -37,11 +37,10 @@ pub fn run_program<S: Source, K: Sink, E: Sink, L: Ledger>(
     ensures no_words { IfErr words (λ fault. (result ≡ number_of (fault_status fault)) × (input.new ≡ input.old)) }
     ensures nothing_written { result ≢ 0 → result ≢ 8 → output.new ≡ output.old }
 {
-    let status = match words {
-        Ok(words) => tool(alloc, &words, input, output, errors, steps),
-        Err(fault) => conclude_without_words(errors, fault),
-    };
-    status.number()
+    match words {
+        Ok(words) => tool(alloc, &words, input, output, errors, steps).number(),
+        Err(fault) => conclude_without_words(errors, fault).number(),
+    }
 }
 
 // Tells on the errors sink why there are no words.

@@ -4,6 +4,7 @@ use Rattle.pp_tool.specs.Verdict.{Ends, Gives, IsOnly}
 use Rattle.pp_tool.specs.Commands.{Decides, CanRefuse}
 use Rattle.pp_tool.proofs.VerdictLemmas.{err_is}
 use Rattle.pp_tool.proofs.CommandLemmas.{ends_early, ends_written}
+use Rattle.pp_tool.proofs.OrderLemmas.{not_refused}
 use Rattle.pp_tool.proofs.command.run.Goals as goal
 
 pub returns-in_err-lines-clause-ends : goal.returns-in_err-lines-clause-ends
@@ -15,3 +16,7 @@ pub returns-clause-ends : goal.returns-clause-ends
 returns-clause-ends g c bytes told =
     ends_written (Decides c.args.command bytes) c.deref.result.now _ _ _
     (subst (λ x. IsOnly (Decides c.args.command bytes) (Gives x)) (sym c.deref.ensures.value) (c.in_ok-lines.ensures.verdict bytes told)) c.write_lines.ensures.only c.write_lines.ensures.whole c.write_lines.ensures.front
+
+pub returns-in_err-lines-clause-in_order : goal.returns-in_err-lines-clause-in_order
+returns-in_err-lines-clause-in_order g c is bytes told order =
+    not_refused _ _ c.from_residual.ensures.1 (c.in_err-lines.ensures.in_order is bytes told order)
