@@ -1,5 +1,5 @@
 -- At most one outcome of stages comes of at most one of each.
-use Rattle.std.proofs.Common.{◌≡◌, ℕ, inl, inr, List, [], refl, sym, ap, ap₂, subst, ◌∙◌}
+use Rattle.std.proofs.Common.{ℕ, inl, inr, List, [], refl, sym, ap, ap₂, subst, ◌∙◌}
 use Rattle.pp_mean.specs.Run.{move, by_list}
 use Rattle.pp_mean.specs.Nodes.{graph_turn}
 use Rattle.pp_mean.proofs.ChainLaws.{one_result}

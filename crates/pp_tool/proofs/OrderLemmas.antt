@@ -1,7 +1,6 @@
 -- An input of `trace` in order is not refused.
 use Rattle.std.proofs.Common.{◌≡◌, ℕ, ◌≤◌, inl, inr, List, length, sym, ap, subst, ◌∙◌}
-use Rattle.std.specs.Prelude.{Result, Vec, IfErr}
-use Rattle.std.specs.declared.alloc.Global.{Global}
+use Rattle.std.specs.Prelude.{Result, IfErr}
 use Rattle.std.specs.Result.{IsErrAnd}
 use Rattle.pp_graph.specs.Plan.{Plan}
 use Rattle.pp_mean.specs.Plain.{IsPlain}

@@ -1,12 +1,11 @@
 -- At least one outcome of stages comes of at least one of each.
-use Rattle.std.proofs.Common.{◌≡◌, ℕ, inl, inr, List, [], refl, sym, ap, subst, ◌∙◌}
-use Rattle.pp_graph.specs.Plan.{Plan}
+use Rattle.std.proofs.Common.{ℕ, inl, inr, List, [], refl, sym, subst}
 use Rattle.pp_mean.specs.Plain.{IsPlain}
 use Rattle.pp_tool.specs.declared.refusal.Refusal.{Refusal}
 use Rattle.pp_tool.specs.declared.refusal.Refusal.TheVariants as refusal
 use Rattle.pp_tool.specs.declared.refusal.CheckReason.TheVariants as check
 use Rattle.pp_tool.specs.Verdict.{Outcome, Gives, Refuses, Then, Test, Writes, AtLeastOne}
-use Rattle.pp_tool.specs.Capture.{IsCapture, joined}
+use Rattle.pp_tool.specs.Capture.{joined}
 use Rattle.pp_tool.specs.GraphText.{Begun, ReadsText}
 use Rattle.pp_tool.specs.Trace.{HasPlain, HasShortRest, ReadsCapture, Reports, OnShort, OnPlain, OnGraph, Traces}
 

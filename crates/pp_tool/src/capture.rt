@@ -101,11 +101,7 @@ fn is_begin(rec: &Rec<'_>) -> bool
     ensures { IsTrue result ↔ (view rec.now ≡ Begins 0 [] []) }
 {
     match rec {
-        Rec::Begin {
-            conn,
-            sets,
-            script,
-        } => *conn == 0 && sets.len() == 0 && script.len() == 0,
+        Rec::Begin { conn, sets, script } => *conn == 0 && sets.len() == 0 && script.len() == 0,
         Rec::Bytes { .. } | Rec::Resume { .. } | Rec::Finish { .. } | Rec::Halt => false,
     }
 }

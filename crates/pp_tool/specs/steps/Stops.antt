@@ -1,5 +1,5 @@
 -- How a command stops, and the pieces of its line.
-use Rattle.std.specs.Prelude.{◌≡◌, ℕ, List, [], ◌++◌, Result, Ok, Err, codes, decimal, flat_map}
+use Rattle.std.specs.Prelude.{ℕ, List, [], ◌++◌, Result, Ok, Err, codes, decimal, flat_map}
 use Rattle.std.specs.Borrow.{Bor}
 use Rattle.pp_outside.specs.Faults.{Rose}
 use Rattle.pp_text.specs.declared.fault.TextFault.{TextFault}
