@@ -12,17 +12,19 @@ ghost use Rattle.pp_tool.specs.Answers.{ComesWhere};
 ghost use Rattle.pp_tool.specs.Verdict.{Gives, Refuses, Concludes, AtMostOne, AtLeastOne};
 ghost use Rattle.pp_tool.specs.GraphText.{HasNoGraph, IsNoGraph, Begun, ReadsText, ReadsTextAlone};
 ghost use Rattle.pp_mean.specs.Plain.{IsPlain};
-ghost use Rattle.pp_tool.specs.Trace.{Traces, Reports};
+ghost use Rattle.pp_tool.specs.Trace.{Traces, Reports, HasReport};
 ghost use Rattle.pp_tool.specs.Print.{Prints};
 ghost use Rattle.pp_tool.specs.Commands.{IsAnswerOf};
 ghost use Rattle.pp_tool.specs.Facts.{FailsCheck, HasLongRest, HasNoCapture, HasPrint};
 
-/// `trace` refuses an input for each reason exactly where the input gives that reason, and writes nothing before.
-pub fn trace_refuses()
+/// `trace` refuses an input for each reason exactly where the input gives that reason, and writes nothing before; what it
+/// writes of any other is the report of the run.
+pub fn trace_decides()
     ensures graph { (bytes before : List ℕ) (reason : GraphReason) → Traces bytes (Refuses (refusal.Graph reason) before) ↔ (HasNoGraph bytes reason × (before ≡ [])) }
     ensures check { (bytes before : List ℕ) (reason : CheckReason) → Traces bytes (Refuses (refusal.Check reason) before) ↔ (FailsCheck bytes reason × (before ≡ [])) }
     ensures too_long { (bytes before : List ℕ) → Traces bytes (Refuses refusal.TooLong before) ↔ (HasLongRest bytes × (before ≡ [])) }
     ensures capture { (bytes before : List ℕ) → Traces bytes (Refuses refusal.Capture before) ↔ (HasNoCapture bytes × (before ≡ [])) }
+    ensures lines { (bytes lines : List ℕ) → Traces bytes (Gives lines) → HasReport bytes lines }
 {}
 
 /// `print` refuses an input exactly where it is not the text of a graph alone, and else writes its printed text.

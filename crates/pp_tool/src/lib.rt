@@ -17,7 +17,7 @@ mod words;
 
 pub use command::tool;
 pub use laws::{
-    one_verdict, print_answers, print_decides, some_verdict, trace_answers, trace_refuses,
+    one_verdict, print_answers, print_decides, some_verdict, trace_answers, trace_decides,
 };
 pub use program::run_program;
 pub use status::Status;

@@ -1,5 +1,5 @@
 -- The ledger is the one that the blank opens.
 use Rattle.llparse.proofs.main.Given as goal
 
-abbrev pub ghosts-run : goal.ghosts-command
+abbrev pub ghosts-run : goal.ghosts-run
 ghosts-run a = record { name = a.blank.name; parts = a.blank.parts }
