@@ -6,8 +6,9 @@ use Rattle.std.proofs.Math.Seq.{take-append-add}
 use Rattle.pp_outside.specs.Faults.{Rose}
 use Rattle.pp_outside.specs.Sink.{Adds, AddsSome}
 use Rattle.pp_outside.proofs.AddsLemmas.{Adds-then}
-use Rattle.pp_tool.specs.Answers.{WrongLine, graph_line}
-use Rattle.pp_tool.specs.Judged.{line_with}
+use Rattle.pp_tool.specs.declared.refusal.GraphReason.TheVariants.{WrongLine}
+use Rattle.pp_tool.specs.Answers.{graph_line}
+use Rattle.pp_tool.specs.steps.Stops.{line_with}
 
 -- some front of what comes behind is some front of the whole
 pub front-behind : (a b c : Option (List ℕ)) (done piece after : List ℕ) → Adds a b done → AddsSome b c piece → AddsSome a c (done ++ (piece ++ after))

@@ -1,5 +1,5 @@
 -- The first example, which the definitions compute.
-use Rattle.std.proofs.Common.{◌≡◌, List, [], ◌∷◌, None, true, false, refl}
+use Rattle.std.proofs.Common.{◌≡◌, List, [], ◌∷◌, ◌++◌, flat_map, None, true, false, refl}
 use Rattle.std.specs.Prelude.{codes}
 use Rattle.std.specs.Fmt.{digits}
 use Rattle.pp_bytes.specs.declared.fold.Fold.TheVariants.{Same}
@@ -13,9 +13,11 @@ use Rattle.pp_graph.specs.Built.{built}
 use Rattle.pp_text.specs.Printed.{printed}
 use Rattle.pp_event.specs.declared.item.Item.TheVariants.{Call}
 use Rattle.pp_event.specs.Run.{Waiting, RunResult}
-use Rattle.pp_tool.specs.Capture.{capture_of, joined}
+use Rattle.pp_capture.specs.Pairs.{pairs}
+use Rattle.pp_capture.specs.Spelling.{Begins, Halts, spelled, spelled_sets, spelled_script, spelled_part}
+use Rattle.pp_tool.specs.Capture.{parts_records, joined}
 use Rattle.pp_tool.specs.Report.{report_of}
-use Rattle.pp_tool.specs.Input.{RunsTo}
+use Rattle.pp_tool.specs.Trace.{RunsTo}
 
 -- calls `hit` after each `a`
 abbrev calls : List BuilderCall
@@ -35,10 +37,12 @@ graph = built calls
 text : printed graph ≡ codes "graph 1\nhost hit match\nentry start\nnode start match\non \"a\" -> hit_it\nskip -> start\nnode hit_it call hit\nelse -> start\nend\n"
 text = refl
 
--- `bab` in one record, and a byte a record
-capture : capture_of ((98 ∷ 97 ∷ 98 ∷ []) ∷ []) ≡ 1 ∷ 0 ∷ 0 ∷ 0 ∷ 0 ∷ 2 ∷ 0 ∷ 0 ∷ 3 ∷ 98 ∷ 97 ∷ 98 ∷ 5 ∷ []
+-- the capture of `bab` in one part
+capture : flat_map spelled (Begins 0 [] [] ∷ parts_records ((98 ∷ 97 ∷ 98 ∷ []) ∷ [])) ++ spelled Halts ≡ 1 ∷ 0 ∷ 0 ∷ 0 ∷ 0 ∷ 2 ∷ 0 ∷ 0 ∷ 3 ∷ 98 ∷ 97 ∷ 98 ∷ 5 ∷ []
+unfolding spelled spelled_sets spelled_script spelled_part pairs
 capture = refl
 
+-- and what parts of a byte each hold
 cut : joined ((98 ∷ []) ∷ (97 ∷ []) ∷ (98 ∷ []) ∷ []) ≡ joined ((98 ∷ 97 ∷ 98 ∷ []) ∷ [])
 cut = refl
 
@@ -46,7 +50,7 @@ abbrev result : RunResult
 result = record { finish = Waiting; last = record { config = record { node = 0; at = 3; carried = 0; values = []; spans = [] }; rest = []; items = Call 0 0 2 [] 0 ∷ []; resumes = 0 } }
 
 -- the graph's run on it
-run : RunsTo graph ((98 ∷ 97 ∷ 98 ∷ []) ∷ []) result
+run : RunsTo graph (98 ∷ 97 ∷ 98 ∷ []) result
 run = (5, refl)
 
 -- and its report

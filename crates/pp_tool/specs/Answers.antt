@@ -3,6 +3,16 @@ use Rattle.std.specs.Prelude.{◌≡◌, ℕ, ◌≤◌, ◌⊎◌, List, [], �
 use Rattle.pp_outside.specs.Faults.{Rose}
 use Rattle.pp_graph.specs.declared.fault.GraphRule.{GraphRule}
 use Rattle.pp_graph.specs.declared.fault.GraphRule.TheVariants as rule
+use Rattle.pp_tool.specs.declared.refusal.GraphReason.{GraphReason}
+use Rattle.pp_tool.specs.declared.refusal.GraphReason.TheVariants as reason
+use Rattle.pp_tool.specs.declared.refusal.CheckReason.{CheckReason}
+use Rattle.pp_tool.specs.declared.refusal.CheckReason.TheVariants as check
+use Rattle.pp_tool.specs.declared.refusal.Refusal.{Refusal}
+use Rattle.pp_tool.specs.declared.refusal.Refusal.TheVariants as refusal
+use Rattle.pp_tool.specs.declared.stop.Stop.{Stop}
+use Rattle.pp_tool.specs.declared.stop.Stop.TheVariants as stop
+use Rattle.pp_tool.specs.declared.words.WordsFault.{WordsFault}
+use Rattle.pp_tool.specs.declared.words.WordsFault.TheVariants as words_fault
 use Rattle.pp_tool.specs.declared.status.Status.{Status}
 use Rattle.pp_tool.specs.declared.status.Status.TheVariants as status
 
@@ -19,17 +29,7 @@ number_of status.WriteFault = 8
 number_of status.NoMemory = 9
 number_of status.TooLong = 10
 
--- Why the graph part of an input is refused: a line that isn't whole in time, a wrong line, or a rule that fails at a line.
-pub data GraphReason : Type 0 where
-  LongLine : GraphReason
-  WrongLine : (line : ℕ) → GraphReason
-  BrokenRule : (line : ℕ) (broken : GraphRule) → GraphReason
-
--- Why the checks fail: the graph is not plain, or its run comes to a node twice at one place.
-pub data CheckReason : Type 0 where
-  NotYet : CheckReason
-  Loops : CheckReason
-
+-- the text of a rule
 abbrev pub rule_text : GraphRule → List ℕ
 rule_text rule.DuplicateName = codes "duplicate name"
 rule_text rule.UnknownName = codes "unknown name"
@@ -43,22 +43,62 @@ rule_text rule.EmptyKey = codes "empty key"
 rule_text rule.KeyNotFolded = codes "key not folded"
 rule_text rule.TooMany = codes "too many"
 
+-- the line where the words are no command
+abbrev pub words_line : List ℕ
+words_line = codes "words: no such command\n"
+
+-- the line of a refused graph text, which tells where and why
 abbrev pub graph_line : GraphReason → List ℕ
-graph_line LongLine = codes "graph: too long\n"
-graph_line (WrongLine line) = codes "graph: line " ++ decimal line ++ codes ": syntax\n"
-graph_line (BrokenRule line broken) = codes "graph: line " ++ decimal line ++ codes ": " ++ rule_text broken ++ codes "\n"
+graph_line reason.LongLine = codes "graph: too long\n"
+graph_line (reason.WrongLine line) = codes "graph: line " ++ decimal line ++ codes ": syntax\n"
+graph_line (reason.BrokenRule line broken) = codes "graph: line " ++ decimal line ++ codes ": " ++ rule_text broken ++ codes "\n"
 
+-- the line of failed checks
 abbrev pub check_line : CheckReason → List ℕ
-check_line NotYet = codes "check: not yet\n"
-check_line Loops = codes "check: loop\n"
+check_line check.NotYet = codes "check: not yet\n"
+check_line check.Loops = codes "check: loop\n"
 
--- The line on the errors sink, with its LF; none for Ok. Those of a refused graph and of failed checks tell why.
+-- the status of a refusal
+abbrev pub status_of : Refusal → Status
+status_of (refusal.Graph why) = status.Graph
+status_of (refusal.Check why) = status.Check
+status_of refusal.TooLong = status.TooLong
+status_of refusal.Capture = status.Capture
+
+-- the line of a refusal
+abbrev pub line_of : Refusal → List ℕ
+line_of (refusal.Graph why) = graph_line why
+line_of (refusal.Check why) = check_line why
+line_of refusal.TooLong = codes "input too long\n"
+line_of refusal.Capture = codes "capture: refused\n"
+
+-- the status of an early end
+abbrev pub stop_status : Stop → Status
+stop_status (stop.Refused why) = status_of why
+stop_status stop.ReadFault = status.ReadFault
+stop_status stop.WriteFault = status.WriteFault
+stop_status stop.NoMemory = status.NoMemory
+
+-- the line of an early end
+abbrev pub stop_line : Stop → List ℕ
+stop_line (stop.Refused why) = line_of why
+stop_line stop.ReadFault = codes "read fault\n"
+stop_line stop.WriteFault = codes "write fault\n"
+stop_line stop.NoMemory = codes "out of memory\n"
+
+-- the status of a program that has no words
+abbrev pub fault_status : WordsFault → Status
+fault_status words_fault.NoText = status.Words
+fault_status words_fault.NoMemory = status.NoMemory
+
+-- The line on the errors sink, with its LF; none for Ok. Those of a refused graph and of failed checks tell why. No
+-- answer is Program, so there is no line for it.
 abbrev pub IsErrorLine : Status → List ℕ → Type 0
 IsErrorLine status.Ok line = line ≡ []
-IsErrorLine status.Words line = line ≡ codes "words: no such command\n"
-IsErrorLine status.Graph line = (reason : GraphReason) × (line ≡ graph_line reason)
-IsErrorLine status.Check line = (reason : CheckReason) × (line ≡ check_line reason)
-IsErrorLine status.Program line = line ≡ codes "program: refused\n"
+IsErrorLine status.Words line = line ≡ words_line
+IsErrorLine status.Graph line = (why : GraphReason) × (line ≡ graph_line why)
+IsErrorLine status.Check line = (why : CheckReason) × (line ≡ check_line why)
+IsErrorLine status.Program line = ⊥
 IsErrorLine status.Capture line = line ≡ codes "capture: refused\n"
 IsErrorLine status.ReadFault line = line ≡ codes "read fault\n"
 IsErrorLine status.WriteFault line = line ≡ codes "write fault\n"
@@ -75,3 +115,8 @@ pub record ComesWhere (answer this : Status) (fact : Type 0) : Type 0 where
 abbrev pub Tells : Option (List ℕ) → Option (List ℕ) → ℕ → ℕ → List ℕ → Type 0
 Tells before after old new line = (held : List ℕ) → before ≡ Some held →
     (after ≡ Some (held ++ line)) ⊎ (Rose old new × (n : ℕ) × (n ≤ length line) × (after ≡ Some (held ++ take n line)))
+
+-- the sink told what it held before, and then what the input asks for
+abbrev pub Adds : (List ℕ → Type 0) → Option (List ℕ) → Option (List ℕ) → Type 0
+Adds Asked before after = (held : List ℕ) → before ≡ Some held →
+    (asked : List ℕ) × Asked asked × (after ≡ Some (held ++ asked))

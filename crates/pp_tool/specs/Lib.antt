@@ -1,9 +1,14 @@
 pub mod Words
 pub mod Answers
+pub mod Verdict
+pub mod GraphText
 pub mod Capture
 pub mod Report
-pub mod Input
-pub mod Judged
+pub mod Print
+pub mod Trace
+pub mod Commands
+pub mod steps
+pub mod Facts
 pub use Rattle.pp_graph.specs.Plan
 pub use Rattle.pp_graph.specs.Calls
 pub use Rattle.pp_graph.specs.Built
@@ -22,3 +27,4 @@ pub use Rattle.pp_mean.specs.Mean
 pub use Rattle.pp_mean.specs.Plain
 pub use Rattle.pp_mean.specs.Whole
 pub use Rattle.pp_outside.specs.Faults
+pub use Rattle.pp_capture.specs.Spelling

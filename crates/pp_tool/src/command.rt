@@ -1,16 +1,21 @@
-// The command.
-ghost use Rattle.std.specs.Prelude.{◌≡◌, ◌≢◌, ◌↔◌, ◌⊎◌, List, ℕ, Some, [], IfOk, IfErr, OnOk, OnErr};
+// Running a command.
+ghost use Rattle.std.specs.Prelude.{◌≡◌, ◌≢◌, ◌↔◌, ◌⊎◌, List, ℕ, Some, [], IfErr, OnErr, OnOk};
 ghost use Rattle.pp_outside.specs.Faults.{Rose};
 ghost use Rattle.pp_outside.specs.Sink.{Adds as SinkAdds, AddsSome as SinkAddsSome};
-ghost use Rattle.pp_tool.specs.declared.refusal.Refusal.TheVariants as refusal;
-ghost use Rattle.pp_tool.specs.Words.{trace_words, print_words, AreCommand};
-ghost use Rattle.pp_tool.specs.Answers.{ComesWhere, Tells, IsErrorLine, GraphReason, CheckReason};
-ghost use Rattle.pp_tool.specs.Input.{HasNoGraph, IsNoGraph, HasNoCapture, HasLongRest, FailsCheck, HasReport, HasPrint, IsTraced, IsGraphAlone, IsCause, Adds, AddsSome};
-ghost use Rattle.pp_tool.specs.Judged.{TraceSays, PrintSays, RefusesPrint, status_after, line_after};
+ghost use Rattle.pp_tool.specs.declared.refusal.Refusal.{Refusal};
+ghost use Rattle.pp_tool.specs.declared.stop.Stop.TheVariants as stop;
+ghost use Rattle.pp_tool.specs.declared.words.Command.{Command as CommandOf};
+ghost use Rattle.pp_tool.specs.declared.words.Command.TheVariants.{Trace};
+ghost use Rattle.pp_tool.specs.Words.{trace_words, words_of, AreCommand, Asked};
+ghost use Rattle.pp_tool.specs.Answers.{Tells, Adds, IsErrorLine, words_line};
+ghost use Rattle.pp_tool.specs.Verdict.{Verdict, Answers, Ends, Concludes, IsFault, status_by, lines_by, line_by};
+ghost use Rattle.pp_tool.specs.Trace.{HasReport, IsTraced};
+ghost use Rattle.pp_tool.specs.Commands.{Decides, CanRefuse, IsAnswerOf};
+ghost use Rattle.pp_tool.specs.steps.Stops.{StopsReading, IsNoRefusal, status_after, line_after};
 
 use crate::print::print;
-use crate::refusal::Refusal;
 use crate::status::Status;
+use crate::stop::Stop;
 use crate::trace::trace;
 use crate::words::{Command, WordList};
 use pp_outside::{Sink, Source, Steps, write_whole};
@@ -35,130 +40,115 @@ pub fn tool<S: Source, K: Sink, E: Sink, L: Ledger>(
     steps: &mut Steps<L>,
 ) -> Status
     // Where the input and the output tell their bytes, the report is that of the graph's run on the joined parts,
-    // however they were cut; and what is printed is the printed text of the graph.
+    // however they were cut.
     ensures report { result ≡ Status.Ok → words.now ≡ trace_words → (bytes : List ℕ) → S.left input.old ≡ Some bytes →
         Adds (HasReport bytes) (K.written output.old) (K.written output.new) }
-    ensures printed { result ≡ Status.Ok → words.now ≡ print_words → (bytes : List ℕ) → S.left input.old ≡ Some bytes →
-        Adds (HasPrint bytes) (K.written output.old) (K.written output.new) }
+
+    // Over an input that tells its bytes, a command answers and writes as its verdict on them says, which is the only one,
+    // or the outside or memory fails.
+    ensures words { result ≡ Status.Words ↔ ¬ (AreCommand words.now) }
+    ensures verdict { Asked words.now (S.left input.old) (λ command bytes.
+        Concludes (Decides command bytes) result (K.written output.old) (K.written output.new)) }
+    ensures front { Asked words.now (S.left input.old) (λ command bytes. (v : Verdict) → Decides command bytes v →
+        SinkAddsSome (K.written output.old) (K.written output.new) (lines_by v)) }
+    ensures completeness { Asked words.now (S.left input.old) (λ command bytes. (v : Verdict) → Decides command bytes v →
+        ¬ (Rose (S.faults input.old) (S.faults input.new)) → ¬ (Rose (K.faults output.old) (K.faults output.new)) →
+        (result ≡ status_by v) ⊎ (result ≡ Status.NoMemory)) }
+    // An input of `trace` in order is never refused.
+    ensures in_order { words.now ≡ trace_words → (bytes : List ℕ) → S.left input.old ≡ Some bytes → IsTraced bytes →
+        ¬ (Rose (S.faults input.old) (S.faults input.new)) → ¬ (Rose (K.faults output.old) (K.faults output.new)) →
+        (result ≡ Status.Ok) ⊎ (result ≡ Status.NoMemory) }
     ensures read_to_end { result ≡ Status.Ok → (bytes : List ℕ) → S.left input.old ≡ Some bytes → S.left input.new ≡ Some [] }
 
-    // When each answer comes, over an input that tells its bytes.
-    ensures words { result ≡ Status.Words ↔ ¬ (AreCommand words.now) }
-    ensures trace_graph { words.now ≡ trace_words → (bytes : List ℕ) → S.left input.old ≡ Some bytes →
-        ComesWhere result Status.Graph ((reason : GraphReason) × HasNoGraph bytes reason) }
-    ensures print_graph { words.now ≡ print_words → (bytes : List ℕ) → S.left input.old ≡ Some bytes →
-        ComesWhere result Status.Graph ((reason : GraphReason) × IsNoGraph bytes reason) }
-    ensures check { words.now ≡ trace_words → (bytes : List ℕ) → S.left input.old ≡ Some bytes →
-        ComesWhere result Status.Check ((reason : CheckReason) × FailsCheck bytes reason) }
-    ensures too_long { words.now ≡ trace_words → (bytes : List ℕ) → S.left input.old ≡ Some bytes →
-        ComesWhere result Status.TooLong (HasLongRest bytes) }
-    ensures capture { words.now ≡ trace_words → (bytes : List ℕ) → S.left input.old ≡ Some bytes →
-        ComesWhere result Status.Capture (HasNoCapture bytes) }
-    ensures no_check { words.now ≡ print_words → (result ≢ Status.Check) × (result ≢ Status.TooLong) × (result ≢ Status.Capture) }
-    ensures no_program { result ≢ Status.Program }
-
-    // A fault has its cause, over any input and output.
+    // Over any input and output, a command has its own answers alone, and a fault has its cause.
+    ensures answers { (command : CommandOf) → words.now ≡ words_of command → IsAnswerOf command result }
     ensures read_fault { result ≡ Status.ReadFault → Rose (S.faults input.old) (S.faults input.new) }
     ensures write_fault { result ≡ Status.WriteFault → Rose (K.faults output.old) (K.faults output.new) }
-
-    // An input in order is never refused.
-    ensures completeness { words.now ≡ trace_words → (bytes : List ℕ) → S.left input.old ≡ Some bytes → IsTraced bytes →
-        ¬ (Rose (S.faults input.old) (S.faults input.new)) → ¬ (Rose (K.faults output.old) (K.faults output.new)) →
-        (result ≡ Status.Ok) ⊎ (result ≡ Status.NoMemory) }
-    ensures print_completeness { words.now ≡ print_words → (bytes : List ℕ) → S.left input.old ≡ Some bytes → IsGraphAlone bytes →
-        ¬ (Rose (S.faults input.old) (S.faults input.new)) → ¬ (Rose (K.faults output.old) (K.faults output.new)) →
-        (result ≡ Status.Ok) ⊎ (result ≡ Status.NoMemory) }
 
     // What an answer leaves.
     ensures nothing_read { result ≡ Status.Words → input.new ≡ input.old }
     ensures nothing_written { result ≢ Status.Ok → result ≢ Status.WriteFault → output.new ≡ output.old }
-    ensures front_written { result ≡ Status.WriteFault → words.now ≡ trace_words → (bytes : List ℕ) → S.left input.old ≡ Some bytes →
-        AddsSome (HasReport bytes) (K.written output.old) (K.written output.new) }
-    ensures front_printed { result ≡ Status.WriteFault → words.now ≡ print_words → (bytes : List ℕ) → S.left input.old ≡ Some bytes →
-        AddsSome (HasPrint bytes) (K.written output.old) (K.written output.new) }
-    // The line tells the status, and where the input tells its bytes the line on a graph or a check tells why.
+    ensures no_steps { steps.new ≡ steps.old }
+    // The line tells the status, and where the input tells its bytes it is that of the verdict.
     ensures error_line { (line : List ℕ) × IsErrorLine result line × Tells (E.written errors.old) (E.written errors.new) (E.faults errors.old) (E.faults errors.new) line
-        × ((bytes : List ℕ) → S.left input.old ≡ Some bytes → IsCause words.now bytes result line) }
+        × Asked words.now (S.left input.old) (λ command bytes. (v : Verdict) → Decides command bytes v → IsFault result ⊎ (line ≡ line_by v)) }
 {
     let _ = steps;
-    let done = run(alloc, words, input, output);
-    conclude(errors, done)
+    match words.command() {
+        Some(command) => {
+            let done = run(alloc, command, input, output);
+            conclude(errors, done)
+        }
+        None => {
+            tell_no_command(errors);
+            Status::Words
+        }
+    }
 }
 
-// Runs the command that the words name, without the line on the errors sink.
+// Runs a command, without the line on the errors sink.
 fn run<S: Source, K: Sink>(
     alloc: Global,
-    words: &WordList,
+    command: Command,
     input: &mut S,
     output: &mut K,
-) -> Result<(), Refusal>
-    ensures command { AreCommand words.now ⊎ (result ≡ Err refusal.Words) }
-    ensures words { AreCommand words.now → result ≢ Err refusal.Words }
-    ensures traced { words.now ≡ trace_words → (bytes : List ℕ) → S.left input.old ≡ Some bytes → TraceSays bytes result }
-    ensures printed { words.now ≡ print_words → (bytes : List ℕ) → S.left input.old ≡ Some bytes → PrintSays bytes result }
-    ensures print { words.now ≡ print_words → IfErr result RefusesPrint }
+) -> Result<(), Stop>
+    ensures ends { (bytes : List ℕ) → S.left input.old ≡ Some bytes →
+        Ends (Decides command bytes) result (K.written output.old) (K.written output.new) }
+    ensures in_order { command ≡ Trace → (bytes : List ℕ) → S.left input.old ≡ Some bytes → IsTraced bytes → IfErr result IsNoRefusal }
+    ensures refusals { (why : Refusal) → result ≡ Err (stop.Refused why) → CanRefuse command why }
     ensures read_to_end { (bytes : List ℕ) → S.left input.old ≡ Some bytes → OnOk result (S.left input.new ≡ Some []) }
-    ensures report { words.now ≡ trace_words → (bytes : List ℕ) → S.left input.old ≡ Some bytes →
-        OnOk result (Adds (HasReport bytes) (K.written output.old) (K.written output.new)) }
-    ensures text { words.now ≡ print_words → (bytes : List ℕ) → S.left input.old ≡ Some bytes →
-        OnOk result (Adds (HasPrint bytes) (K.written output.old) (K.written output.new)) }
-    ensures front_of_report { words.now ≡ trace_words → (bytes : List ℕ) → S.left input.old ≡ Some bytes →
-        result ≡ Err refusal.WriteFault → AddsSome (HasReport bytes) (K.written output.old) (K.written output.new) }
-    ensures front_of_text { words.now ≡ print_words → (bytes : List ℕ) → S.left input.old ≡ Some bytes →
-        result ≡ Err refusal.WriteFault → AddsSome (HasPrint bytes) (K.written output.old) (K.written output.new) }
-    ensures read_fault { result ≡ Err refusal.ReadFault → Rose (S.faults input.old) (S.faults input.new) }
-    ensures write_fault { result ≡ Err refusal.WriteFault → Rose (K.faults output.old) (K.faults output.new) }
-    ensures nothing_read { result ≡ Err refusal.Words → input.new ≡ input.old }
-    ensures nothing_written { IfErr result (λ r. r ≢ refusal.WriteFault → output.new ≡ output.old) }
+    ensures read_fault { result ≡ Err stop.ReadFault → Rose (S.faults input.old) (S.faults input.new) }
+    ensures write_fault { result ≡ Err stop.WriteFault → Rose (K.faults output.old) (K.faults output.new) }
+    ensures nothing_written { IfErr result (λ s. s ≢ stop.WriteFault → output.new ≡ output.old) }
 {
-    let bytes = output_of(alloc, words, input)?;
-    write_output(output, &bytes)
+    let lines = lines_of(alloc, command, input)?;
+    write_lines(output, &lines)
 }
 
-// What the command that the words name writes.
-fn output_of<S: Source>(alloc: Global, words: &WordList, input: &mut S) -> Result<Vec<u8>, Refusal>
-    ensures command { AreCommand words.now ⊎ (result ≡ Err refusal.Words) }
-    ensures words { AreCommand words.now → result ≢ Err refusal.Words }
-    ensures no_write { result ≢ Err refusal.WriteFault }
-    ensures traced { words.now ≡ trace_words → (bytes : List ℕ) → S.left input.old ≡ Some bytes → TraceSays bytes result }
-    ensures printed { words.now ≡ print_words → (bytes : List ℕ) → S.left input.old ≡ Some bytes → PrintSays bytes result }
-    ensures print { words.now ≡ print_words → IfErr result RefusesPrint }
+// What a command writes.
+fn lines_of<S: Source>(alloc: Global, command: Command, input: &mut S) -> Result<Vec<u8>, Stop>
+    ensures verdict { (bytes : List ℕ) → S.left input.old ≡ Some bytes → Answers (Decides command bytes) (λ v. v.items) result }
+    ensures in_order { command ≡ Trace → (bytes : List ℕ) → S.left input.old ≡ Some bytes → IsTraced bytes → IfErr result IsNoRefusal }
     ensures read_to_end { (bytes : List ℕ) → S.left input.old ≡ Some bytes → OnOk result (S.left input.new ≡ Some []) }
-    ensures report { words.now ≡ trace_words → (bytes : List ℕ) → S.left input.old ≡ Some bytes → IfOk result (λ v. HasReport bytes v.items) }
-    ensures text { words.now ≡ print_words → (bytes : List ℕ) → S.left input.old ≡ Some bytes → IfOk result (λ v. HasPrint bytes v.items) }
-    ensures read_fault { result ≡ Err refusal.ReadFault → Rose (S.faults input.old) (S.faults input.new) }
-    ensures nothing_read { result ≡ Err refusal.Words → input.new ≡ input.old }
+    ensures stops { IfErr result (StopsReading (CanRefuse command) (S.faults input.old) (S.faults input.new)) }
 {
-    match words.command() {
-        Some(Command::Trace) => trace(alloc, input),
-        Some(Command::Print) => print(alloc, input),
-        None => Err(Refusal::Words),
+    match command {
+        Command::Trace => trace(alloc, input),
+        Command::Print => print(alloc, input),
     }
 }
 
-// Writes the output of a command.
-fn write_output<K: Sink>(output: &mut K, bytes: &[u8]) -> Result<(), Refusal>
-    ensures only { IfErr result (λ r. r ≡ refusal.WriteFault) }
-    ensures whole { OnOk result (SinkAdds (K.written output.old) (K.written output.new) bytes.now) }
+// Writes the lines of a command.
+fn write_lines<K: Sink>(output: &mut K, lines: &[u8]) -> Result<(), Stop>
+    ensures only { IfErr result (λ s. s ≡ stop.WriteFault) }
+    ensures whole { OnOk result (SinkAdds (K.written output.old) (K.written output.new) lines.now) }
     ensures failed { OnErr result (Rose (K.faults output.old) (K.faults output.new)) }
-    ensures front { OnErr result (SinkAddsSome (K.written output.old) (K.written output.new) bytes.now) }
+    ensures front { OnErr result (SinkAddsSome (K.written output.old) (K.written output.new) lines.now) }
 {
-    match write_whole(output, bytes) {
+    match write_whole(output, lines) {
         Ok(()) => Ok(()),
-        Err(_) => Err(Refusal::WriteFault),
+        Err(_) => Err(Stop::WriteFault),
     }
 }
 
-// Tells a refusal on the errors sink. A line that can't be written changes no status.
-fn conclude<E: Sink>(errors: &mut E, done: Result<(), Refusal>) -> Status
+// Tells an early end on the errors sink. A line that can't be written changes no status.
+fn conclude<E: Sink>(errors: &mut E, done: Result<(), Stop>) -> Status
     ensures status { result ≡ status_after done }
     ensures line { Tells (E.written errors.old) (E.written errors.new) (E.faults errors.old) (E.faults errors.new) (line_after done) }
 {
     match done {
         Ok(()) => Status::Ok,
-        Err(refusal) => {
-            refusal.tell(errors);
-            refusal.status()
+        Err(stop) => {
+            stop.tell(errors);
+            stop.status()
         }
     }
+}
+
+/// Tells on the errors sink that the words are no command.
+pub(crate) fn tell_no_command<E: Sink>(errors: &mut E)
+    ensures { Tells (E.written errors.old) (E.written errors.new) (E.faults errors.old) (E.faults errors.new) words_line }
+{
+    let _ = write_whole(errors, b"words: no such command\n");
 }

@@ -1,10 +1,8 @@
 // The words of a command line.
 ghost use Rattle.std.specs.Prelude.{◌≡◌, ◌++◌, ◌∷◌, [], ◌↔◌, IsTrue, MatchOption, OnOk, OnErr};
-ghost use Rattle.pp_tool.specs.Words.{AreCommand};
-ghost use Rattle.pp_tool.specs.Judged.{words_of};
+ghost use Rattle.pp_tool.specs.Words.{AreCommand, words_of};
 
-use pp_graph::NoMemory;
-use std::alloc::Global;
+use std::alloc::{AllocError, Global};
 use std::marker::Model;
 
 /// What the words can ask for.
@@ -14,6 +12,15 @@ pub(crate) enum Command {
     Trace,
     /// The printed form of a graph text.
     Print,
+}
+
+/// Why there are no words.
+#[derive(Clone, Copy, Debug, PartialEq, Eq)]
+pub enum WordsFault {
+    /// A word is no text, so the words are no command.
+    NoText,
+    /// Memory ran out.
+    NoMemory,
 }
 
 /// The words behind the program's name, in order. Contracts see it as the list of its words, each a list of bytes.
@@ -43,7 +50,7 @@ impl WordList {
     }
 
     /// Puts a word last. A refused call changes nothing.
-    pub fn add(&mut self, word: &str) -> Result<(), NoMemory>
+    pub fn add(&mut self, word: &str) -> Result<(), AllocError>
         ensures added { OnOk result (self.new ≡ self.old ++ word.now ∷ []) }
         ensures unchanged { OnErr result (self.new ≡ self.old) }
     {

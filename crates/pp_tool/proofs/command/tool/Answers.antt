@@ -1,53 +1,57 @@
--- The status and the line are those of what was done.
-use Rattle.std.proofs.Common.{sym, ◌∙◌, subst}
+-- The status, the output and the line are those of what was done.
+use Rattle.std.proofs.Common.{◌≡◌, ◌⊎◌, sym, ◌∙◌, subst}
 use Rattle.pp_tool.specs.declared.status.Status.TheVariants as status
-use Rattle.pp_tool.specs.Answers.{ComesWhere, IsErrorLine, GraphReason, CheckReason}
-use Rattle.pp_tool.specs.Input.{HasNoGraph, IsNoGraph, HasNoCapture, HasLongRest, FailsCheck, IsCause}
-use Rattle.pp_tool.specs.Judged.{line_after}
+use Rattle.pp_tool.specs.declared.words.Command.TheVariants as command
+use Rattle.pp_tool.specs.Answers.{IsErrorLine}
+use Rattle.pp_tool.specs.Verdict.{Ends, Concludes, IsFault, status_by, line_by}
+use Rattle.pp_tool.specs.Commands.{Decides, IsAnswerOf}
+use Rattle.pp_tool.specs.steps.Stops.{status_after, line_after}
 use Rattle.pp_tool.proofs.CommandLemmas as lemma
 use Rattle.pp_tool.proofs.command.tool.Goals as goal
 
-pub returns-clause-report : goal.returns-clause-report
-returns-clause-report g c ok words bytes told = lemma.when_ok _ c.run-done.result (sym c.conclude.ensures.status ∙ ok) (c.run-done.ensures.report words bytes told)
+pub returns-in-Some-clause-report : goal.returns-in-Some-clause-report
+returns-in-Some-clause-report g c ok words bytes told =
+    let same = lemma.one_command command.Trace c.in-Some.command (sym words ∙ c.in-Some.ensures) in
+    let ends = subst (λ a. Ends (Decides a bytes) c.run-done.result (g.K.Sink.written c.args.output.now) (g.K.Sink.written c.run-done.new.output)) (sym same) (c.run-done.ensures.ends bytes told) in
+    lemma.report bytes c.run-done.result _ _ ends (sym c.conclude.ensures.status ∙ ok)
 
-pub returns-clause-printed : goal.returns-clause-printed
-returns-clause-printed g c ok words bytes told = lemma.when_ok _ c.run-done.result (sym c.conclude.ensures.status ∙ ok) (c.run-done.ensures.text words bytes told)
+pub returns-in-Some-clause-verdict : goal.returns-in-Some-clause-verdict
+returns-in-Some-clause-verdict g c asked words bytes told =
+    let same = lemma.one_command asked c.in-Some.command (sym words ∙ c.in-Some.ensures) in
+    let ends = subst (λ a. Ends (Decides a bytes) c.run-done.result (g.K.Sink.written c.args.output.now) (g.K.Sink.written c.run-done.new.output)) (sym same) (c.run-done.ensures.ends bytes told) in
+    subst (λ s. Concludes (Decides asked bytes) s (g.K.Sink.written c.args.output.now) (g.K.Sink.written c.run-done.new.output)) (sym c.conclude.ensures.status) (lemma.concludes (Decides asked bytes) c.run-done.result _ _ ends)
 
-pub returns-clause-trace_graph : goal.returns-clause-trace_graph
-returns-clause-trace_graph g c words bytes told =
-    subst (λ s. ComesWhere s status.Graph ((reason : GraphReason) × HasNoGraph bytes reason)) (sym c.conclude.ensures.status) (lemma.trace_graph bytes c.run-done.result (c.run-done.ensures.traced words bytes told))
+pub returns-in-Some-clause-in_order : goal.returns-in-Some-clause-in_order
+returns-in-Some-clause-in_order g c words bytes told order reads writes =
+    let same = lemma.one_command command.Trace c.in-Some.command (sym words ∙ c.in-Some.ensures) in
+    subst (λ s. (s ≡ status.Ok) ⊎ (s ≡ status.NoMemory)) (sym c.conclude.ensures.status)
+    (lemma.in_order c.run-done.result (c.run-done.ensures.in_order (sym same) bytes told order) (λ e. reads (c.run-done.ensures.read_fault e)) (λ e. writes (c.run-done.ensures.write_fault e)))
 
-pub returns-clause-print_graph : goal.returns-clause-print_graph
-returns-clause-print_graph g c words bytes told =
-    subst (λ s. ComesWhere s status.Graph ((reason : GraphReason) × IsNoGraph bytes reason)) (sym c.conclude.ensures.status) (lemma.print_graph bytes c.run-done.result (c.run-done.ensures.printed words bytes told))
+pub returns-in-Some-clause-answers : goal.returns-in-Some-clause-answers
+returns-in-Some-clause-answers g c asked words =
+    let same = lemma.one_command asked c.in-Some.command (sym words ∙ c.in-Some.ensures) in
+    subst (λ s. IsAnswerOf asked s) (sym c.conclude.ensures.status) (subst (λ a. IsAnswerOf a (status_after c.run-done.result)) (sym same) (lemma.answers c.in-Some.command c.run-done.result c.run-done.ensures.refusals))
 
-pub returns-clause-check : goal.returns-clause-check
-returns-clause-check g c words bytes told =
-    subst (λ s. ComesWhere s status.Check ((reason : CheckReason) × FailsCheck bytes reason)) (sym c.conclude.ensures.status) (lemma.check bytes c.run-done.result (c.run-done.ensures.traced words bytes told))
+pub returns-in-Some-clause-front : goal.returns-in-Some-clause-front
+returns-in-Some-clause-front g c asked words bytes told v decided =
+    let same = lemma.one_command asked c.in-Some.command (sym words ∙ c.in-Some.ensures) in
+    let ends = subst (λ a. Ends (Decides a bytes) c.run-done.result (g.K.Sink.written c.args.output.now) (g.K.Sink.written c.run-done.new.output)) (sym same) (c.run-done.ensures.ends bytes told) in
+    lemma.front (Decides asked bytes) c.run-done.result _ _ ends v decided
 
-pub returns-clause-too_long : goal.returns-clause-too_long
-returns-clause-too_long g c words bytes told =
-    subst (λ s. ComesWhere s status.TooLong (HasLongRest bytes)) (sym c.conclude.ensures.status) (lemma.too_long bytes c.run-done.result (c.run-done.ensures.traced words bytes told))
+pub returns-in-Some-clause-completeness : goal.returns-in-Some-clause-completeness
+returns-in-Some-clause-completeness g c asked words bytes told v decided reads writes =
+    let same = lemma.one_command asked c.in-Some.command (sym words ∙ c.in-Some.ensures) in
+    let ends = subst (λ a. Ends (Decides a bytes) c.run-done.result (g.K.Sink.written c.args.output.now) (g.K.Sink.written c.run-done.new.output)) (sym same) (c.run-done.ensures.ends bytes told) in
+    subst (λ s. (s ≡ status_by v) ⊎ (s ≡ status.NoMemory)) (sym c.conclude.ensures.status)
+    (lemma.complete (Decides asked bytes) c.run-done.result _ _ ends v decided (λ e. reads (c.run-done.ensures.read_fault e)) (λ e. writes (c.run-done.ensures.write_fault e)))
 
-pub returns-clause-capture : goal.returns-clause-capture
-returns-clause-capture g c words bytes told =
-    subst (λ s. ComesWhere s status.Capture (HasNoCapture bytes)) (sym c.conclude.ensures.status) (lemma.capture bytes c.run-done.result (c.run-done.ensures.traced words bytes told))
-
-pub returns-clause-completeness : goal.returns-clause-completeness
-returns-clause-completeness g c words bytes told order reads writes =
-    subst (λ s. lemma.IsDone s) (sym c.conclude.ensures.status)
-    (lemma.trace_done bytes c.run-done.result (c.run-done.ensures.traced words bytes told) order (λ e. reads (c.run-done.ensures.read_fault e)) (λ e. writes (c.run-done.ensures.write_fault e)))
-
-pub returns-clause-print_completeness : goal.returns-clause-print_completeness
-returns-clause-print_completeness g c words bytes told alone reads writes =
-    subst (λ s. lemma.IsDone s) (sym c.conclude.ensures.status)
-    (lemma.print_done bytes c.run-done.result (c.run-done.ensures.printed words bytes told) alone (λ e. reads (c.run-done.ensures.read_fault e)) (λ e. writes (c.run-done.ensures.write_fault e)))
-
-pub returns-clause-error_line : goal.returns-clause-error_line
-returns-clause-error_line g c = (
+pub returns-in-Some-clause-error_line : goal.returns-in-Some-clause-error_line
+returns-in-Some-clause-error_line g c = (
   line_after c.run-done.result,
   subst (λ s. IsErrorLine s (line_after c.run-done.result)) (sym c.conclude.ensures.status) (lemma.error_line c.run-done.result),
   c.conclude.ensures.line,
-  (λ bytes told. subst (λ s. IsCause c.args.words.now bytes s (line_after c.run-done.result)) (sym c.conclude.ensures.status)
-      (lemma.is_cause c.args.words.now bytes c.run-done.result c.run-done.ensures.command (λ w. c.run-done.ensures.traced w bytes told) (λ w. c.run-done.ensures.printed w bytes told))),
+  (λ asked words bytes told v decided.
+      let same = lemma.one_command asked c.in-Some.command (sym words ∙ c.in-Some.ensures) in
+      let ends = subst (λ a. Ends (Decides a bytes) c.run-done.result (g.K.Sink.written c.args.output.now) (g.K.Sink.written c.run-done.new.output)) (sym same) (c.run-done.ensures.ends bytes told) in
+      subst (λ s. IsFault s ⊎ (line_after c.run-done.result ≡ line_by v)) (sym c.conclude.ensures.status) (lemma.line (Decides asked bytes) c.run-done.result _ _ ends v decided)),
 )

@@ -1,0 +1,88 @@
+-- `trace`: the text of a plain graph, then a capture within its limit, and the report of the graph's run on the joined
+-- parts, each answer being 0.
+use Rattle.std.specs.Prelude.{◌≡◌, ℕ, ◌≤◌, List, [], Option, length}
+use Rattle.pp_graph.specs.Plan.{Plan}
+use Rattle.pp_event.specs.Run.{RunResult}
+use Rattle.pp_event.specs.Answers.{by_list}
+use Rattle.pp_mean.specs.Mean.{Means}
+use Rattle.pp_mean.specs.Plain.{IsPlain}
+use Rattle.pp_mean.specs.Whole.{ComesBack}
+use Rattle.pp_tool.specs.declared.refusal.CheckReason.TheVariants as check
+use Rattle.pp_tool.specs.declared.refusal.Refusal.TheVariants as refusal
+use Rattle.pp_tool.specs.Verdict.{Outcome, Gives, Refuses, Verdict, Then, Test}
+use Rattle.pp_tool.specs.GraphText.{Begun, BeginsWithGraph, ReadsText}
+use Rattle.pp_tool.specs.Capture.{IsCapture, joined}
+use Rattle.pp_tool.specs.Report.{report_of}
+
+-- the most bytes behind the graph text
+abbrev pub capture_limit : ℕ
+capture_limit = 262144
+
+-- the run of the graph on the whole string has this result
+abbrev pub RunsTo : Plan → List ℕ → RunResult → Type 0
+RunsTo g string r = Means g [] string (by_list []) 0 r
+
+-- it comes to a node twice at one place
+abbrev pub RunsInLoop : Plan → List ℕ → Type 0
+RunsInLoop g string = (node : ℕ) × (byte : Option ℕ) × ComesBack g string node byte
+
+-- the graph is plain
+abbrev pub HasPlain : Begun → Type 0
+HasPlain begun = IsPlain begun.0
+
+-- a capture has room behind the text
+abbrev pub HasShortRest : Begun → Type 0
+HasShortRest begun = length begun.1 ≤ capture_limit
+
+-- the stage that hands on the graph and the connection's whole string, where what follows the text is a capture
+abbrev pub ReadsCapture : Begun → Outcome Begun → Type 0
+ReadsCapture begun (Gives out) = (parts : List (List ℕ)) × IsCapture begun.1 parts × (out ≡ (begun.0, joined parts))
+ReadsCapture begun (Refuses why before) = ((parts : List (List ℕ)) → ¬ (IsCapture begun.1 parts)) × (why ≡ refusal.Capture) × (before ≡ [])
+
+-- the last stage: it writes the report of the run, or the run comes to a node twice at one place
+abbrev pub Reports : Begun → Verdict → Type 0
+Reports begun (Gives lines) = (r : RunResult) × RunsTo begun.0 begun.1 r × ¬ (RunsInLoop begun.0 begun.1) × (lines ≡ report_of begun.0 r)
+Reports begun (Refuses why before) = RunsInLoop begun.0 begun.1 × (why ≡ refusal.Check check.Loops) × (before ≡ [])
+
+-- the stages that are left, behind a rest within its limit
+abbrev pub OnShort : Begun → Verdict → Type 0
+OnShort = Then ReadsCapture Reports
+
+-- behind a plain graph
+abbrev pub OnPlain : Begun → Verdict → Type 0
+OnPlain = Then (Test HasShortRest refusal.TooLong) OnShort
+
+-- behind the text of a graph
+abbrev pub OnGraph : Begun → Verdict → Type 0
+OnGraph = Then (Test HasPlain (refusal.Check check.NotYet)) OnPlain
+
+-- what `trace` makes of an input
+abbrev pub Traces : List ℕ → Verdict → Type 0
+Traces = Then ReadsText OnGraph
+
+-- the bytes begin with the text of a plain graph
+pub record BeginsWithPlain (bytes : List ℕ) (g : Plan) (rest : List ℕ) : Type 0 where
+  pub last : ℕ
+  pub graph : BeginsWithGraph bytes g last rest
+  pub plain : IsPlain g
+
+-- a plain graph and a capture, whose run has a result, and the report of it
+pub record HasReport (bytes report : List ℕ) : Type 0 where
+  pub g : Plan
+  pub rest : List ℕ
+  pub parts : List (List ℕ)
+  pub result : RunResult
+  pub graph : BeginsWithPlain bytes g rest
+  pub capture : IsCapture rest parts
+  pub run : RunsTo g (joined parts) result
+  pub lines : report ≡ report_of g result
+
+-- an input of `trace` in order: a plain graph and a capture within its limit, whose run comes to no node twice at one place
+pub record IsTraced (bytes : List ℕ) : Type 0 where
+  pub g : Plan
+  pub rest : List ℕ
+  pub parts : List (List ℕ)
+  pub graph : BeginsWithPlain bytes g rest
+  pub short : length rest ≤ capture_limit
+  pub capture : IsCapture rest parts
+  pub no_loop : ¬ (RunsInLoop g (joined parts))

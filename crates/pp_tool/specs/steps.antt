@@ -1,0 +1,3 @@
+-- What the private steps hand to each other. No public clause cites these.
+pub mod Reading
+pub mod Stops
