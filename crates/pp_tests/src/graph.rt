@@ -1,12 +1,15 @@
 // The builder's calls, each once, and what names, reasons and faults look like. What the rules refuse stands in `rules`.
 
+ghost use Rattle.std.specs.Prelude.{◌+◌, ◌<◌, ◌≤◌, length, OnOk};
+
 use pp_bytes::{ByteSet, Fold};
 use pp_graph::{
     Code, CodeText, Graph, GraphBuilder, GraphFault, GraphRule, Kind, KindText, LastNode, Name,
-    Other, Peek, Reason, Width, is_name, is_reason,
+    NoMemory, Other, Peek, Reason, Width, is_name, is_reason,
 };
 use pp_text::read_graph;
 use std::alloc::Global;
+use std::process::Abort;
 use std::test::Fail;
 
 // The set of the bytes of a text.
@@ -18,8 +21,30 @@ fn set_of(text: &[u8]) -> ByteSet {
     bytes
 }
 
+// Adds keys of one byte to the last node, a match.
+fn add_keys(rt: &impl Abort, builder: &mut GraphBuilder, text: &[u8]) -> Result<(), NoMemory>
+    requires { length builder.old < 1000 }
+    ensures { OnOk result (length builder.new ≤ length builder.old + 256) }
+{
+    let bytes = set_of(text);
+    assert!(rt; bytes.len() <= 256);
+    assert!(rt; matches!(builder.last_node(), LastNode::Match));
+    builder.keys(bytes, None, "asked")
+}
+
+// Adds peeks to the last node, a match.
+fn add_peeks(rt: &impl Abort, builder: &mut GraphBuilder, text: &[u8]) -> Result<(), NoMemory>
+    requires { length builder.old < 1000 }
+    ensures { OnOk result (length builder.new ≤ length builder.old + 256) }
+{
+    let bytes = set_of(text);
+    assert!(rt; bytes.len() <= 256);
+    assert!(rt; matches!(builder.last_node(), LastNode::Match));
+    builder.peeks(bytes, "asked")
+}
+
 // A graph by every call of a builder.
-fn by_every_call(alloc: Global) -> Result<Graph, GraphFault> {
+fn by_every_call(rt: &impl Abort, alloc: Global) -> Result<Graph, GraphFault> {
     let mut builder = GraphBuilder::new(alloc);
     builder.prop("count", Width::W16)?;
     builder.host("hit", false)?;
@@ -27,14 +52,6 @@ fn by_every_call(alloc: Global) -> Result<Graph, GraphFault> {
     builder.span("body")?;
     builder.entry("start")?;
     builder.finish("count", "hit")?;
-    builder.node("start", KindText::Match { fold: Fold::Lower })?;
-    builder.key(b"a", None, "asked")?;
-    builder.key(b"ab", Some(255), "grown")?;
-    builder.keys(set_of(b"dc"), None, "start")?;
-    builder.keys(ByteSet::new(), None, "start")?;
-    builder.peek(b'x', "start")?;
-    builder.peeks(set_of(b"zy"), "asked")?;
-    builder.skip("start")?;
     let code = CodeText::Call { host: "hit" };
     builder.node("asked", KindText::Invoke { code })?;
     builder.answer(1, "start")?;
@@ -46,6 +63,14 @@ fn by_every_call(alloc: Global) -> Result<Graph, GraphFault> {
     };
     builder.node("grown", KindText::Invoke { code })?;
     builder.otherwise("start")?;
+    builder.node("start", KindText::Match { fold: Fold::Lower })?;
+    builder.key(b"a", None, "asked")?;
+    builder.key(b"ab", Some(255), "grown")?;
+    builder.peek(b'x', "start")?;
+    builder.skip("start")?;
+    add_keys(rt, &mut builder, b"dc")?;
+    add_keys(rt, &mut builder, b"")?;
+    add_peeks(rt, &mut builder, b"zy")?;
     builder.close()
 }
 
@@ -57,27 +82,27 @@ host sum value
 span body
 entry start
 finish count hit
-node start match lower
-on \"a\" -> asked
-on \"ab\" = 255 -> grown
-on \"c\" -> start
-on \"d\" -> start
-peek \"x\" -> start
-peek \"y\" -> asked
-peek \"z\" -> asked
-skip -> start
 node asked call hit
 is 1 -> start
 else -> start
 node grown muladd count 10 max 65535
 else -> start
+node start match lower
+on \"a\" -> asked
+on \"ab\" = 255 -> grown
+on \"c\" -> asked
+on \"d\" -> asked
+peek \"x\" -> start
+peek \"y\" -> asked
+peek \"z\" -> asked
+skip -> start
 end
 ";
 
 #[test]
 fn every_call_adds_what_it_names(rt: HostRuntime) -> Result<(), Fail> {
     let alloc = rt.alloc();
-    let graph = by_every_call(alloc)?;
+    let graph = by_every_call(&rt, alloc)?;
     let (read, _) = read_graph(alloc, EVERY_CALL.as_bytes())?;
     let built = format!(in alloc; "{graph:?}")?;
     let read = format!(in alloc; "{read:?}")?;
@@ -87,36 +112,36 @@ fn every_call_adds_what_it_names(rt: HostRuntime) -> Result<(), Fail> {
 
 #[test]
 fn a_graph_tells_its_parts(rt: HostRuntime) -> Result<(), Fail> {
-    let graph = by_every_call(rt.alloc())?;
+    let graph = by_every_call(&rt, rt.alloc())?;
     assert_eq!(rt; (graph.props().len(), graph.hosts().len()), (1, 2));
     assert_eq!(rt; (graph.spans().len(), graph.nodes().len()), (1, 3));
     assert_eq!(rt; graph.props()[0].width, Width::W16);
     assert_eq!(rt; graph.spans()[0].name.bytes(), b"body".as_slice());
     assert!(rt; !graph.hosts()[0].value && graph.hosts()[1].value);
-    assert_eq!(rt; (graph.entry(), graph.finish_rule()), (0, Some((0, 0))));
+    assert_eq!(rt; (graph.entry(), graph.finish_rule()), (2, Some((0, 0))));
     let Kind::Match {
         fold,
         keys,
         peeks,
         other,
-    } = &graph.nodes()[0].kind
+    } = &graph.nodes()[2].kind
     else {
         return Err(Fail::from("no match node"));
     };
     let skip = Other {
         skip: true,
-        target: 0,
+        target: 2,
     };
     assert_eq!(rt; (*fold, *other), (Fold::Lower, skip));
     assert_eq!(rt; keys.items().len(), 4);
     let key = &keys.items()[1];
     assert_eq!(rt;
         (key.bytes.items(), key.number, key.target),
-        (b"ab".as_slice(), Some(255), 2)
+        (b"ab".as_slice(), Some(255), 1)
     );
     let peek = Peek {
         byte: b'y',
-        target: 1,
+        target: 0,
     };
     assert_eq!(rt; peeks.items()[1], peek);
     Ok(())
@@ -125,8 +150,8 @@ fn a_graph_tells_its_parts(rt: HostRuntime) -> Result<(), Fail> {
 // Where a code has no most, it is the greatest value of its property.
 #[test]
 fn a_most_that_is_not_given_is_that_of_the_property(rt: HostRuntime) -> Result<(), Fail> {
-    let graph = by_every_call(rt.alloc())?;
-    let Kind::Invoke { code, .. } = &graph.nodes()[2].kind else {
+    let graph = by_every_call(&rt, rt.alloc())?;
+    let Kind::Invoke { code, .. } = &graph.nodes()[1].kind else {
         return Err(Fail::from("no invoke node"));
     };
     let most = Code::MulAdd {
@@ -238,25 +263,26 @@ fn faults_of_graphs_have_a_text(rt: HostRuntime) -> Result<(), Fail> {
     Ok(())
 }
 
-// A builder's fault has the number of the call, and for a want of an entry the count of calls.
+// A builder's fault has the number of the call, of which a set has one for each byte; a want of an entry has their count.
 #[test]
 fn a_broken_rule_is_told_with_its_call(rt: HostRuntime) -> Result<(), Fail> {
     let mut builder = GraphBuilder::new(rt.alloc());
-    builder.node("a", KindText::Match { fold: Fold::Same })?;
-    builder.otherwise("a")?;
+    builder.node("asked", KindText::Match { fold: Fold::Same })?;
+    builder.otherwise("asked")?;
     let want = GraphFault::Broken {
         rule: GraphRule::NoEntry,
         call: 2,
     };
     assert_eq!(rt; builder.close().err(), Some(want));
     let mut builder = GraphBuilder::new(rt.alloc());
-    builder.entry("a")?;
-    builder.node("a", KindText::Match { fold: Fold::Same })?;
-    builder.keys(set_of(b"abc"), None, "a")?;
-    builder.otherwise("b")?;
+    builder.entry("asked")?;
+    builder.node("asked", KindText::Match { fold: Fold::Same })?;
+    builder.otherwise("asked")?;
+    add_keys(&rt, &mut builder, b"abc")?;
+    builder.entry("asked")?;
     let want = GraphFault::Broken {
-        rule: GraphRule::UnknownName,
-        call: 5,
+        rule: GraphRule::DuplicateName,
+        call: 6,
     };
     assert_eq!(rt; builder.close().err(), Some(want));
     Ok(())
