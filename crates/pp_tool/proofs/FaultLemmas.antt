@@ -1,7 +1,7 @@
 -- What a fault of reading a text says of the bytes.
 use Rattle.std.proofs.Common.{◌≡◌, ℕ, ◌⊎◌, inl, inr, List, refl, sym, ap, ◌∙◌}
-use Rattle.pp_graph.specs.Rules.{KeepsRules}
-use Rattle.pp_graph.specs.declared.fault.GraphRule.{GraphRule}
+use Rattle.pp_rules.specs.Rules.{KeepsRules}
+use Rattle.pp_rules.specs.declared.rules.GraphRule.{GraphRule}
 use Rattle.pp_text.specs.declared.fault.TextFault.{TextFault}
 use Rattle.pp_text.specs.declared.fault.TextFault.TheVariants as fault
 use Rattle.pp_text.specs.Text.{Told, BeginWithText, IsWrongAt, IsTooLong}

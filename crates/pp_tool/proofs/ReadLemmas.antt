@@ -4,7 +4,7 @@ use Rattle.std.specs.Prelude.{count_by}
 use Rattle.std.proofs.Math.ListN.{drop_of_length-le}
 use Rattle.std.proofs.lemmas.List.{length-drop, length-append}
 use Rattle.pp_graph.specs.Plan.{Plan}
-use Rattle.pp_graph.specs.Rules.{KeepsRules}
+use Rattle.pp_rules.specs.Rules.{KeepsRules}
 use Rattle.pp_text.specs.Text.{Told, limit, BeginWithText}
 use Rattle.pp_text.specs.Outcome.{Reads}
 use Rattle.pp_tool.specs.declared.refusal.GraphReason.{GraphReason}

@@ -3,11 +3,11 @@ use Rattle.std.proofs.Common.{◌≡◌, List, [], ◌∷◌, ◌++◌, flat_map
 use Rattle.std.specs.Prelude.{codes}
 use Rattle.std.specs.Fmt.{digits}
 use Rattle.pp_bytes.specs.declared.fold.Fold.TheVariants.{Same}
-use Rattle.pp_graph.specs.declared.call.NamedCode.TheVariants as code
-use Rattle.pp_graph.specs.declared.call.NamedKind.TheVariants as kind
-use Rattle.pp_graph.specs.declared.call.NamedEdge.TheVariants as edge
-use Rattle.pp_graph.specs.declared.call.BuilderCall.{BuilderCall}
-use Rattle.pp_graph.specs.declared.call.BuilderCall.TheVariants as call
+use Rattle.pp_rules.specs.declared.call.NamedCode.TheVariants as code
+use Rattle.pp_rules.specs.declared.call.NamedKind.TheVariants as kind
+use Rattle.pp_rules.specs.declared.call.NamedEdge.TheVariants as edge
+use Rattle.pp_rules.specs.declared.call.BuilderCall.{BuilderCall}
+use Rattle.pp_rules.specs.declared.call.BuilderCall.TheVariants as call
 use Rattle.pp_graph.specs.Plan.{Plan}
 use Rattle.pp_graph.specs.Built.{built}
 use Rattle.pp_text.specs.Printed.{printed}

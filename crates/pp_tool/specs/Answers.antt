@@ -1,8 +1,8 @@
 -- The answers of a command: their numbers, their lines on the errors sink, and when one comes.
 use Rattle.std.specs.Prelude.{◌≡◌, ℕ, ◌≤◌, ◌⊎◌, List, [], ◌++◌, Option, Some, codes, decimal, length, take}
 use Rattle.pp_outside.specs.Faults.{Rose}
-use Rattle.pp_graph.specs.declared.fault.GraphRule.{GraphRule}
-use Rattle.pp_graph.specs.declared.fault.GraphRule.TheVariants as rule
+use Rattle.pp_rules.specs.declared.rules.GraphRule.{GraphRule}
+use Rattle.pp_rules.specs.declared.rules.GraphRule.TheVariants as rule
 use Rattle.pp_tool.specs.declared.refusal.GraphReason.{GraphReason}
 use Rattle.pp_tool.specs.declared.refusal.GraphReason.TheVariants as reason
 use Rattle.pp_tool.specs.declared.refusal.CheckReason.{CheckReason}

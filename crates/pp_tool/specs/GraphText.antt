@@ -2,7 +2,7 @@
 use Rattle.std.specs.Prelude.{◌≡◌, ◌≢◌, ◌⊎◌, ℕ, suc, List, []}
 use Rattle.pp_graph.specs.Plan.{Plan}
 use Rattle.pp_graph.specs.Built.{built}
-use Rattle.pp_graph.specs.Rules.{KeepsRules}
+use Rattle.pp_rules.specs.Rules.{KeepsRules}
 use Rattle.pp_text.specs.Text.{Told, BeginWithText, IsWrongAt, IsTooLong}
 use Rattle.pp_text.specs.Outcome.{Breaks}
 use Rattle.pp_tool.specs.declared.refusal.GraphReason.{GraphReason}

@@ -12,7 +12,7 @@ pub mod Facts
 pub use Rattle.pp_graph.specs.Plan
 pub use Rattle.pp_graph.specs.Calls
 pub use Rattle.pp_graph.specs.Built
-pub use Rattle.pp_graph.specs.Rules
+pub use Rattle.pp_rules.specs.Rules
 pub use Rattle.pp_text.specs.Tokens
 pub use Rattle.pp_text.specs.Keys
 pub use Rattle.pp_text.specs.Statements

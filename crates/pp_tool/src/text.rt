@@ -1,6 +1,6 @@
 // The graph text that begins an input.
 ghost use Rattle.std.specs.Prelude.{◌≡◌, ◌≤◌, suc, List, ℕ, Some, [], length, count_by, IfOk, IfErr, OnOk};
-ghost use Rattle.pp_graph.specs.Rules.{KeepsRules};
+ghost use Rattle.pp_rules.specs.Rules.{KeepsRules};
 ghost use Rattle.pp_text.specs.Text.{Told, BeginWithText};
 ghost use Rattle.pp_text.specs.Outcome.{Reads};
 ghost use Rattle.pp_tool.specs.declared.refusal.GraphReason.{GraphReason};
