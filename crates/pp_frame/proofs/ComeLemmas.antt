@@ -1,11 +1,11 @@
 -- How far a chunked body was read, and what its end tells.
-use Rattle.std.proofs.Common.{◌≡◌, ◌≢◌, ℕ, suc, ◌+◌, ◌-◌, ◌<◌, ◌≤◌, ◌^◌, Bool, true, false, ◌&&◌, cond, List, [], ◌∷◌, ◌++◌, length, map, filter, take, drop, get_or, replicate, Option, None, Some, inl, inr, refl, sym, ap, ◌∙◌, subst, arith, append_assoc, All}
+use Rattle.std.proofs.Common.{◌≡◌, ◌≢◌, ℕ, suc, ◌+◌, ◌<◌, Bool, true, false, List, [], ◌∷◌, ◌++◌, length, take, drop, get_or, replicate, None, Some, inl, inr, refl, sym, ap, ◌∙◌, subst, arith, append_assoc}
 use Rattle.std.proofs.lemmas.Bool.{cases_lt}
-use Rattle.std.proofs.lemmas.List.{append-nil, map-append, take_more, length-take-le, take_at, length-map, length-append, take-append-drop, length-replicate}
+use Rattle.std.proofs.lemmas.List.{append-nil, map-append, take_more, take_at, length-map, length-append, take-append-drop, length-replicate}
 use Rattle.pp_frame.specs.declared.places.Place.{Place}
 use Rattle.pp_frame.specs.declared.places.Place.TheVariants.{FirstDigit, Digits, Extension, SizeFeed, Data, DataReturn, DataFeed, FieldStart, Name, Value, ValueFeed, LastFeed, Whole}
 use Rattle.pp_frame.specs.Chunked.{ChunkedBody, IsChunkedBody, IsChunked, IsChunkedFront, IsFirstWrong, spelled, unmarked, data_in, all_data}
-use Rattle.pp_frame.specs.steps.Places.{holds_data, next, Marked, Nothing, Body, Lines, BehindSize, BehindDigits, LineEnd, Rest, HasCome, kept, is_whole}
+use Rattle.pp_frame.specs.steps.Places.{holds_data, next, Marked, Body, Lines, BehindSize, LineEnd, Rest, HasCome, kept, is_whole}
 use Rattle.pp_frame.proofs.PlaceLemmas.{step, back}
 
 -- nothing was read yet

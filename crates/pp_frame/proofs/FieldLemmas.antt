@@ -1,12 +1,12 @@
 -- The field of one line.
-use Rattle.std.proofs.Common.{◌≡◌, ℕ, ◌+◌, ◌-◌, ◌<◌, eqb, ltb, Bool, true, List, length, drop, Option, Some, None, sym, ap, ◌∙◌, refl, arith}
+use Rattle.std.proofs.Common.{◌≡◌, ℕ, ◌+◌, ◌-◌, ◌<◌, eqb, ltb, Bool, List, length, drop, Some, sym, ap, ◌∙◌, arith}
 use Rattle.std.specs.List.{prefix_len, suffix_len, position, position_or_len}
 use Rattle.std.proofs.lemmas.Bool.{ltb-true}
 use Rattle.std.proofs.lemmas.Option.{cond_some}
 use Rattle.pp_frame.specs.declared.parts.Part.{Part}
 use Rattle.pp_frame.specs.declared.parts.Field.{Field}
 use Rattle.pp_frame.specs.Bytes.{is_blank, colon}
-use Rattle.pp_frame.specs.Fields.{trimmed, field_at, colon_of, HasColon, shifted}
+use Rattle.pp_frame.specs.Fields.{trimmed, field_at, HasColon, shifted}
 
 -- a part by its places
 abbrev part : ℕ → ℕ → Part

@@ -1,10 +1,9 @@
 -- The lines and the fields of a head.
-use Rattle.std.proofs.Common.{◌≡◌, ◌≢◌, ℕ, suc, ◌+◌, ◌-◌, ◌<◌, ◌≤◌, List, [], ◌∷◌, ◌++◌, length, get_or, take, drop, inl, inr, sym, ap, ◌∙◌, refl, subst, arith, length-append, length-drop, append_assoc, All, ◌⊎◌, Result, Ok, Err, MatchResult, IfOk}
+use Rattle.std.proofs.Common.{◌≡◌, ℕ, suc, ◌+◌, ◌-◌, ◌<◌, List, [], ◌∷◌, ◌++◌, length, get_or, take, drop, inl, inr, sym, ap, ◌∙◌, refl, subst, arith, length-append, length-drop, append_assoc, All, ◌⊎◌, Result, Ok, Err, MatchResult, IfOk}
 use Rattle.std.specs.List.{flat_map}
-use Rattle.std.proofs.lemmas.Bool.{cases_lt, cases_order}
-use Rattle.std.proofs.lemmas.List.{get_or_at, get_or-append_right, take_at, drop_at, drop-drop, length-take-le, append-nil, take-append-drop}
+use Rattle.std.proofs.lemmas.List.{get_or_at, drop-drop, length-take-le, append-nil}
 use Rattle.std.proofs.lemmas.List.Concat.{flat_map-append}
-use Rattle.std.proofs.lemmas.List.Elements.{All-cons, All-head, All-tail, All-append, All-push}
+use Rattle.std.proofs.lemmas.List.Elements.{All-head, All-tail, All-append, All-push}
 use Rattle.std.proofs.lemmas.Result.{MatchResult-at_err}
 use Rattle.pp_frame.specs.declared.parts.Field.{Field}
 use Rattle.pp_frame.specs.declared.parts.HeadFault.{HeadFault}

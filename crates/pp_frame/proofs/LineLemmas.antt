@@ -1,7 +1,7 @@
 -- The first line of bytes.
-use Rattle.std.proofs.Common.{◌≡◌, ◌≢◌, ℕ, suc, ◌+◌, ◌-◌, ◌<◌, ◌≤◌, List, [], ◌∷◌, ◌++◌, length, get_or, take, drop, inl, inr, sym, ap, ◌∙◌, refl, arith, length-append, length-drop, append_assoc}
+use Rattle.std.proofs.Common.{◌≡◌, ◌≢◌, ℕ, ◌+◌, ◌-◌, ◌<◌, ◌≤◌, List, ◌∷◌, ◌++◌, length, get_or, take, drop, inl, inr, sym, ap, ◌∙◌, refl, arith}
 use Rattle.std.proofs.lemmas.Bool.{cases_lt, cases_order}
-use Rattle.std.proofs.lemmas.List.{get_or_past, get_or-take, length-take-le, take-append-drop, drop_more, get_or_at, get_or_append_left, get_or-append_right, take_at, drop_at, length-take}
+use Rattle.std.proofs.lemmas.List.{get_or_past, get_or-take, length-take-le, take-append-drop, drop_more, get_or_at, get_or_append_left, get_or-append_right, take_at, drop_at}
 use Rattle.pp_frame.specs.Bytes.{crlf}
 use Rattle.pp_frame.specs.Lines.{HasNoEnd}
 use Rattle.pp_frame.specs.steps.Heads.{BeginsWithLine}

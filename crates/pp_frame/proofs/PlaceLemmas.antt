@@ -1,15 +1,15 @@
 -- One byte of a chunked body: what may stand from its place on is the byte and what may stand behind it.
-use Rattle.std.proofs.Common.{◌≡◌, ◌≢◌, ℕ, zero, suc, ◌+◌, ◌-◌, ◌*◌, ◌<◌, ◌≤◌, ◌^◌, Bool, true, false, ◌&&◌, cond, eqb, ltb, List, [], ◌∷◌, ◌++◌, length, map, Option, None, Some, ◌⊎◌, inl, inr, refl, sym, ap, ◌∙◌, subst, arith, append_assoc, All}
+use Rattle.std.proofs.Common.{◌≡◌, ℕ, ◌+◌, ◌-◌, ◌*◌, ◌<◌, ◌≤◌, ◌^◌, Bool, true, false, cond, eqb, ltb, List, [], ◌∷◌, ◌++◌, length, Option, None, Some, ◌⊎◌, inl, inr, refl, sym, ap, ◌∙◌, subst, arith, append_assoc, All}
 use Rattle.std.specs.List.{flat_map, AllPass}
 use Rattle.std.specs.Char.{digit_value}
-use Rattle.std.specs.Str.Parse.{AllDigits, digits_value, digits_value_after}
-use Rattle.std.proofs.lemmas.Bool.{and_from, and_parts, lt-ltb, ltb-true, eqb-true, cond-true, cond-false, cases_Bool, cases_lt, eqb-false}
+use Rattle.std.specs.Str.Parse.{AllDigits, digits_value_after}
+use Rattle.std.proofs.lemmas.Bool.{and_from, and_parts, lt-ltb, ltb-true, eqb-true, cond-true, cond-false, cases_Bool, eqb-false}
 use Rattle.std.proofs.lemmas.List.{map-append, nil_from_length}
 use Rattle.std.proofs.lemmas.List.Elements.{All-cons, All-head, All-tail}
 use Rattle.pp_frame.specs.declared.places.Place.{Place}
 use Rattle.pp_frame.specs.declared.places.Place.TheVariants.{FirstDigit, Digits, Extension, SizeFeed, Data, DataReturn, DataFeed, FieldStart, Name, Value, ValueFeed, LastFeed, Whole}
 use Rattle.pp_frame.specs.Bytes.{crlf, is_text_byte, is_token_byte}
-use Rattle.pp_frame.specs.Chunked.{Chunk, IsChunk, chunk_bytes, ChunkedBody, IsChunkedBody, IsExtension, SizeLine, IsSizeLine, size_of, size_line, spelled, no_data, all_data, FieldLine, IsFieldLine, field_line, extension_bytes}
+use Rattle.pp_frame.specs.Chunked.{Chunk, IsChunk, chunk_bytes, ChunkedBody, IsExtension, SizeLine, IsSizeLine, size_of, size_line, spelled, no_data, all_data, FieldLine, IsFieldLine, field_line, extension_bytes}
 use Rattle.pp_frame.specs.steps.Places.{holds_data, is_more, digit_or, when_is, behind_size, behind_data, next, Marked, Lit, Run, Counted, LineEnd, Nothing, Body, Lines, BehindSize, BehindDigits, Rest, IsFitting}
 
 -- bytes without data, put together

@@ -1,6 +1,6 @@
 -- Worked cuts of streams, which show that the definitions hold of something.
-use Rattle.std.proofs.Common.{◌≡◌, ◌≢◌, ℕ, ◌+◌, ◌<◌, ◌≤◌, Bool, true, false, not, eqb, List, [], ◌∷◌, ◌++◌, length, get_or, take, Option, None, Some, inl, inr, refl, sym, ap, ◌∙◌, arith, All, codes}
-use Rattle.std.specs.List.{list_all, AllPass, Contains}
+use Rattle.std.proofs.Common.{◌≡◌, ℕ, ◌<◌, true, not, eqb, List, [], ◌∷◌, ◌++◌, length, get_or, None, inl, inr, refl, arith, All, codes}
+use Rattle.std.specs.List.{list_all}
 use Rattle.std.proofs.lemmas.Bool.{cases_lt, not-true, eqb-false}
 use Rattle.std.proofs.lemmas.List.{get_or_past}
 use Rattle.std.proofs.lemmas.List.Elements.{All-cons}
@@ -10,8 +10,8 @@ use Rattle.pp_frame.specs.Lines.{IsLine, HasNoEnd}
 use Rattle.pp_frame.specs.Fields.{HasColon, fields_from, field_at, trimmed}
 use Rattle.pp_frame.specs.Framing.{values_named, elements, length_in, ends_chunked, is_quoted}
 use Rattle.pp_frame.specs.StartLine.{StartLine, Request, Response, IsStartLine, methods, start_line}
-use Rattle.pp_frame.specs.Chunked.{SizeLine, Chunk, ChunkedBody, IsSizeLine, IsChunk, IsChunkedBody, IsChunked, spelled}
-use Rattle.pp_frame.specs.Cut.{Message, Cut, IsOpened, IsFrontOfOpening, closes, upgrades, IsLineByte}
+use Rattle.pp_frame.specs.Chunked.{SizeLine, ChunkedBody, IsSizeLine, IsChunk, IsChunked, spelled}
+use Rattle.pp_frame.specs.Cut.{Message, Cut, closes, upgrades, IsLineByte}
 
 -- bytes without a CR have no CRLF
 no_cr : (bytes : List ℕ) → list_all (λ b. not (eqb b 13)) bytes ≡ true → HasNoEnd bytes

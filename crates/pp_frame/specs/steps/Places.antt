@@ -6,7 +6,7 @@ use Rattle.std.specs.Str.Parse.{AllDigits, digits_value_after}
 use Rattle.pp_frame.specs.declared.places.Place.{Place}
 use Rattle.pp_frame.specs.declared.places.Place.TheVariants.{FirstDigit, Digits, Extension, SizeFeed, Data, DataReturn, DataFeed, FieldStart, Name, Value, ValueFeed, LastFeed, Whole}
 use Rattle.pp_frame.specs.Bytes.{crlf, colon, semicolon, carriage_return, line_feed, is_text_byte, is_token_byte}
-use Rattle.pp_frame.specs.Chunked.{ChunkedBody, IsChunkedBody, IsExtension, SizeLine, IsSizeLine, size_of, size_line, spelled, no_data, all_data, FieldLine, IsFieldLine, field_line, extension_bytes, unmarked, data_in}
+use Rattle.pp_frame.specs.Chunked.{ChunkedBody, IsChunkedBody, IsExtension, spelled, no_data, all_data, FieldLine, IsFieldLine, field_line, extension_bytes, unmarked, data_in}
 
 -- whether the byte at a place is data
 abbrev pub holds_data : Place → Bool

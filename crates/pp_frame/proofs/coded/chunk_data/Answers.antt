@@ -1,7 +1,7 @@
-use Rattle.std.proofs.Common.{◌≡◌, ◌+◌, ◌++◌, ◌∷◌, [], Bool, List, ℕ, length, take, get_or, refl, sym, ap, ◌∙◌, subst, arith}
+use Rattle.std.proofs.Common.{◌≡◌, [], Bool, List, ℕ, length, take, get_or, refl, sym, ap, ◌∙◌, subst, arith}
 use Rattle.std.proofs.lemmas.List.{take_more, take_all}
 use Rattle.pp_frame.specs.declared.places.Place.{Place}
-use Rattle.pp_frame.specs.declared.places.Place.TheVariants.{FirstDigit, Whole}
+use Rattle.pp_frame.specs.declared.places.Place.TheVariants.{FirstDigit}
 use Rattle.pp_frame.specs.Chunked.{IsChunked, IsChunkedFront, IsFirstWrong}
 use Rattle.pp_frame.specs.steps.Places.{HasCome, kept}
 use Rattle.pp_frame.proofs.ComeLemmas.{come_none, come_more, came_whole, came_front, came_wrong, whole_place, other_place}

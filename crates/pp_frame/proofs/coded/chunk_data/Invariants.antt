@@ -1,4 +1,4 @@
-use Rattle.std.proofs.Common.{◌≡◌, take}
+use Rattle.std.proofs.Common.{take}
 use Rattle.pp_frame.specs.steps.Places.{HasCome}
 use Rattle.pp_frame.proofs.coded.chunk_data.Given as goal
 

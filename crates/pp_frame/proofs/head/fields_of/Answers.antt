@@ -1,4 +1,3 @@
-use Rattle.std.proofs.Common.{List}
 use Rattle.pp_frame.proofs.HeadLemmas.{only_fields, only_no_end, only_no_colon, told_fields, told_no_end, told_no_colon}
 use Rattle.pp_frame.proofs.head.fields_of.Goals as goal
 

@@ -1,6 +1,6 @@
-use Rattle.std.proofs.Common.{List, ◌∷◌, [], ◌++◌, take, drop, arith}
+use Rattle.std.proofs.Common.{◌∷◌, [], ◌++◌, take, drop, arith}
 use Rattle.std.proofs.lemmas.List.{take_rest}
-use Rattle.pp_frame.proofs.HeadLemmas.{read_more, head_at_once, empty_in_all, empty_behind, no_end_no_head}
+use Rattle.pp_frame.proofs.HeadLemmas.{read_more, empty_behind, no_end_no_head}
 use Rattle.pp_frame.proofs.head.has_empty_line.Goals as goal
 
 pub loop-len-preserved : goal.loop-len-preserved

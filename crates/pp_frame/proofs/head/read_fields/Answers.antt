@@ -1,4 +1,4 @@
-use Rattle.std.proofs.Common.{◌≡◌, ◌+◌, ◌-◌, arith, subst, sym, List, drop}
+use Rattle.std.proofs.Common.{arith, subst, sym, List}
 use Rattle.std.proofs.lemmas.List.{take_rest}
 use Rattle.pp_frame.specs.declared.parts.Field.{Field}
 use Rattle.pp_frame.specs.steps.Heads.{HasReadFields}

@@ -1,4 +1,4 @@
-use Rattle.std.proofs.Common.{◌≡◌, sym, ap, ◌∙◌, arith, List, ℕ}
+use Rattle.std.proofs.Common.{sym, ap, ◌∙◌, arith, List, ℕ}
 use Rattle.pp_frame.specs.Framing.{transfer_encoding, all_elements, values_named}
 use Rattle.pp_frame.specs.steps.Codings.{last_is_chunked}
 use Rattle.pp_frame.proofs.ValueLemmas.{codings_at, values_named-all, ends_chunked_is}

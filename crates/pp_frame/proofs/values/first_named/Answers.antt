@@ -1,4 +1,4 @@
-use Rattle.std.proofs.Common.{◌≡◌, sym, ap, ◌∙◌, arith, List, ℕ, Some, None}
+use Rattle.std.proofs.Common.{sym, ap, ◌∙◌, arith, List, ℕ, Some, None}
 use Rattle.std.specs.List.{slice_get}
 use Rattle.pp_frame.proofs.ValueLemmas.{values_at, values_named-all}
 use Rattle.pp_frame.proofs.values.first_named.Goals as goal

@@ -1,4 +1,4 @@
-use Rattle.std.proofs.Common.{◌≡◌, ◌+◌, drop, sym, ap, ◌∙◌, arith, List, ℕ, Some, None, ltb, length}
+use Rattle.std.proofs.Common.{◌+◌, drop, sym, ap, ◌∙◌, arith, List, ℕ, Some, None, ltb, length}
 use Rattle.std.proofs.lemmas.List.{take_rest}
 use Rattle.pp_frame.specs.Framing.{values_named}
 use Rattle.pp_frame.proofs.ValueLemmas.{values_at, values_named-all, second_behind}
