@@ -3,8 +3,7 @@ use Rattle.std.specs.Prelude.{◌≡◌, ◌^◌, ◌<◌, List, length}
 use Rattle.pp_rules.specs.declared.call.BuilderCall.{BuilderCall}
 use Rattle.pp_rules.specs.declared.rules.GraphRule.TheVariants.{DuplicateName}
 use Rattle.pp_rules.specs.Rules.{Keeps}
-use Rattle.pp_graph.specs.steps.{NameLists, names_in}
-use Rattle.pp_rules.specs.Rules.{Keeps}
+use Rattle.pp_graph.specs.steps.NameLists.{NameLists, names_in}
 
 -- no name of a sort is declared twice, by fewer than 2^32 calls
 pub record DeclaresOnce (calls : List BuilderCall) : Type 0 where
