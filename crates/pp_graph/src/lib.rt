@@ -6,7 +6,6 @@ mod builder;
 mod call;
 mod fault;
 mod graph;
-mod name_lists;
 mod node;
 mod places;
 mod ranges;

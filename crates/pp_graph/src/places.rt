@@ -130,9 +130,9 @@ impl<'c> SortPlaces<'c> {
             BuilderCall::Host { name, .. } => self.hosts.add(name),
             BuilderCall::Span { name } => self.spans.add(name),
             BuilderCall::Node { name, .. } => self.nodes.add(name),
-            BuilderCall::Entry { .. } | BuilderCall::Finish { .. } | BuilderCall::Edge { .. } => {
-                Ok(())
-            }
+            BuilderCall::Entry { .. } => Ok(()),
+            BuilderCall::Finish { .. } => Ok(()),
+            BuilderCall::Edge { .. } => Ok(()),
         }
     }
 }

@@ -27,3 +27,12 @@ returns-in-Node c =
     on_ok_weaker c.add-in-Node.result
     (λ added before h. rw c.in-Node.is (ArePlaces-node c.args.self.now before h c.add-in-Node.new.self c.in-Node.name c.in-Node.kind (added (names_of sort.Node before) h.nodes)))
     c.add-in-Node.ensures
+
+pub returns-in-Entry : goal.returns-in-Entry
+returns-in-Entry c before h = rw c.in-Entry.is (ArePlaces-entry c.args.self.now before h c.in-Entry.node)
+
+pub returns-in-Finish : goal.returns-in-Finish
+returns-in-Finish c before h = rw c.in-Finish.is (ArePlaces-finish c.args.self.now before h c.in-Finish.prop c.in-Finish.host)
+
+pub returns-in-Edge : goal.returns-in-Edge
+returns-in-Edge c before h = rw c.in-Edge.is (ArePlaces-edge c.args.self.now before h c.in-Edge.edge c.in-Edge.target)
