@@ -137,7 +137,7 @@ impl Write for Halting {
 }
 
 // Two bytes a call, and a failure at this one.
-const fn halting(fails_at: u32) -> Halting {
+const fn failing_at(fails_at: u32) -> Halting {
     Halting {
         calls: 0,
         fails_at,
@@ -156,7 +156,7 @@ fn a_reader_of_std_is_a_source(rt: HostRuntime) -> Result<(), Fail> {
     let mut input = ReadSource::new(rt.stdin());
     assert_eq!(rt; input.read(&mut [])?, 0);
 
-    let mut source = ReadSource::new(halting(0));
+    let mut source = ReadSource::new(failing_at(0));
     assert_eq!(rt; source.read(&mut [])?, 0);
     assert_eq!(rt; source.read(&mut buffer), Err(Failed));
     assert_eq!(rt; source.read(&mut buffer)?, 2);
@@ -166,7 +166,7 @@ fn a_reader_of_std_is_a_source(rt: HostRuntime) -> Result<(), Fail> {
 #[test]
 fn a_reader_that_errs_in_the_middle_is_no_end(rt: HostRuntime) -> Result<(), Fail> {
     let mut buffer = [0u8; 6];
-    let mut source = ReadSource::new(halting(1));
+    let mut source = ReadSource::new(failing_at(1));
     assert_eq!(rt; read_some(&mut source, &mut buffer), Err(Failed));
     assert_eq!(rt; buffer, *b"bb\0\0\0\0");
     assert_eq!(rt; read_some(&mut source, &mut buffer)?, 6);
@@ -185,7 +185,7 @@ fn a_writer_of_std_is_a_sink(rt: HostRuntime) -> Result<(), Fail> {
     assert_eq!(rt; output.write(&[])?, 0);
 
     // An empty part makes no call, a short write is told as short, and an error as one.
-    let mut sink = WriteSink::new(halting(1));
+    let mut sink = WriteSink::new(failing_at(1));
     assert_eq!(rt; sink.write(&[])?, 0);
     assert_eq!(rt; sink.write(b"bab")?, 2);
     assert_eq!(rt; sink.write(b"bab"), Err(Failed));
@@ -193,7 +193,7 @@ fn a_writer_of_std_is_a_sink(rt: HostRuntime) -> Result<(), Fail> {
 
     let mut full = WriteSink::new(Halting {
         takes: 0,
-        ..halting(9)
+        ..failing_at(9)
     });
     assert_eq!(rt; full.write(b"b"), Err(Failed));
     Ok(())
