@@ -1,17 +1,14 @@
 -- Pairs that have the form of ranges.
-use Rattle.std.proofs.Common.{◌≡◌, Bool, true, false, ◌||◌, get_or, refl, ℕ, ◌+◌, ◌-◌, ◌<◌, ◌≤◌, List, [], ◌∷◌, ◌++◌, length, take, drop, replicate, ap, sym, ◌∙◌, subst, arith}
+use Rattle.std.proofs.Common.{◌≡◌, Bool, true, ◌||◌, get_or, ℕ, ◌+◌, ◌-◌, ◌<◌, ◌≤◌, List, [], ◌∷◌, ◌++◌, length, take, drop, replicate, ap, sym, ◌∙◌, subst, arith}
+use Rattle.std.proofs.Math.Bool.{or-false}
 use Rattle.std.proofs.Math.ListN.{set}
 use Rattle.std.proofs.lemmas.List.{take_more_set, drop-set-lt, drop-drop, drop-replicate, length-set, length_push}
 use Rattle.std.proofs.lemmas.Bool.{and_from, and_parts, le-leb, leb-true}
 use Rattle.std.proofs.lemmas.List.Folds.{list_any_at, list_any-append, Any-from_list_any}
 use Rattle.std.proofs.lemmas.List.Elements.{All-push}
 use Rattle.std.proofs.lemmas.List.Quantifiers.{all_pairs_push}
-use Rattle.pp_bytes.specs.Pairs.{HoldsRanges}
+use Rattle.pp_bytes.specs.steps.Pairs.{HoldsRanges}
 use Rattle.pp_bytes.specs.Ranges.{IsRanges, CanFollow, in_pair, in_ranges}
-
-or-false : (t : Bool) → (t || false) ≡ t
-or-false true = refl
-or-false false = refl
 
 -- a pair that can follow ranges makes ranges with them
 pub IsRanges-push : (pairs : List (ℕ × ℕ)) (lo hi : ℕ) → IsRanges pairs → CanFollow pairs lo hi → hi < 256 → IsRanges (pairs ++ (lo, hi) ∷ [])

@@ -9,7 +9,7 @@ use Rattle.std.specs.Ordering.{nat_cmp}
 use Rattle.std.specs.FinSet.{FinSet, contains}
 use Rattle.pp_bytes.specs.Bytes.{all_bytes}
 use Rattle.pp_bytes.specs.Ranges.{in_ranges}
-use Rattle.pp_bytes.specs.Found.{EndsRun, HasRunsBelow}
+use Rattle.pp_bytes.specs.steps.Found.{EndsRun, HasRunsBelow}
 use Rattle.pp_bytes.specs.Runs.{begins_run, runs_of}
 use Rattle.pp_bytes.proofs.TableLemmas.{length-all_bytes, get_or-all_bytes}
 use Rattle.pp_bytes.proofs.RangesLemmas.{in_ranges-from_pair, pair_of_byte, in_ranges-push}

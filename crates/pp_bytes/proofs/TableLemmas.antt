@@ -1,5 +1,6 @@
 -- A table of 256 bits as the set of the bytes whose bits it has.
 use Rattle.std.proofs.Common.{◌≡◌, ◌≢◌, ℕ, ◌*◌, ◌/◌, ◌%◌, ◌^◌, ◌<◌, Bool, true, false, ◌&&◌, ◌||◌, List, [], ◌∷◌, length, get_or, replicate, bit_and, refl, sym, ap, zero-add, ◌∙◌, arith, nat_eq, eq-eqb, bit_or, w64, inl, inr}
+use Rattle.std.proofs.Math.Bool.{and-true}
 use Rattle.std.proofs.Math.ListN.{set}
 use Rattle.std.proofs.lemmas.Bool.{eqb-true, ne_eqb, cases_eq, cases_lt}
 use Rattle.std.proofs.lemmas.List.{get_or-set_same, get_or-set_other, get_or-replicate, length-replicate, get_or_past}
@@ -40,10 +41,6 @@ contains_table : (words : List ℕ) (q : ℕ) → contains (set_of_table words) 
 contains_table words q =
     contains-from_list_nat (filter (has_bit words) all_bytes) q
     ∙ any-filter_same (λ y. nat_eq y q) (has_bit words) (has_bit words q) (λ k e. ap (has_bit words) (eqb-true k q e)) all_bytes
-
-and-true : (a : Bool) → (a && true) ≡ a
-and-true true = refl
-and-true false = refl
 
 -- equal numbers compare as equal, and others do not
 tied : (q b : ℕ) → q ≡ b → eq_by_cmp nat_cmp q b ≡ true

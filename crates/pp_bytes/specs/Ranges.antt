@@ -17,7 +17,7 @@ pub record IsRanges (pairs : List (ℕ × ℕ)) : Type 0 where
   pub ordered : All (λ pair. pair.0 ≤ pair.1) pairs
   pub apart : AllPairs (λ pair later. pair.1 + 1 < later.0) pairs
 
--- one more pair may stand behind the pairs: there is room, and it begins above the byte that follows each of them
+-- one more pair may stand after the pairs: there is room, and it begins above the byte that follows each of them
 pub record CanFollow (pairs : List (ℕ × ℕ)) (lo hi : ℕ) : Type 0 where
   pub room : length pairs < 8
   pub ordered : lo ≤ hi

@@ -2,7 +2,7 @@
 ghost use Rattle.std.specs.Prelude.{◌≡◌, ℕ, ◌+◌, ◌<◌, ◌≤◌, ◌↔◌, [], length, true, IfSome, IfNone, IsSome, IsNone, IsTrue};
 ghost use Rattle.std.specs.FinSet as set;
 ghost use Rattle.pp_bytes.specs.Bytes.{bytes_of, set_of_table};
-ghost use Rattle.pp_bytes.specs.Found.{EndsRun, HasRunsBelow};
+ghost use Rattle.pp_bytes.specs.steps.Found.{EndsRun, HasRunsBelow};
 ghost use Rattle.pp_bytes.specs.Ranges.{in_ranges};
 ghost use Rattle.pp_bytes.specs.Runs.{begins_run, runs_of};
 
@@ -58,7 +58,7 @@ impl ByteSet {
     }
 
     /// How many bytes are in the set.
-    pub fn len(&self) -> usize
+    pub fn len(&self) -> u32
         ensures { result ≡ length (bytes_of self.now) }
     {
         set_bits(&self.words)
@@ -122,11 +122,11 @@ fn no_bits(words: &[u64; 4]) -> bool
 }
 
 // How many bits of a table are set.
-fn set_bits(words: &[u64]) -> usize
+fn set_bits(words: &[u64]) -> u32
     requires { length words.now ≡ 4 }
     ensures { result ≡ length (bytes_of (set_of_table words.now)) }
 {
     let low = words[0].count_ones() + words[1].count_ones();
     let high = words[2].count_ones() + words[3].count_ones();
-    (low + high) as usize
+    low + high
 }

@@ -1,5 +1,5 @@
-//! Small things that every crate above uses: the list type of all fields that hold a list, sets of
-//! bytes and their ranges, the folds of a byte, and numbers as texts write them.
+//! What the crates above share: the list type of fields that hold a list, sets of bytes and their ranges,
+//! the folds of a byte, and numbers as texts write them.
 #![tactic(auto)]
 
 mod byte_set;
@@ -13,6 +13,3 @@ pub use fold::Fold;
 pub use listed::Listed;
 pub use number::read_number;
 pub use ranges::Ranges;
-
-#[cfg(test)]
-mod tests;

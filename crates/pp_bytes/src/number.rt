@@ -36,7 +36,7 @@ fn digits_number(digits: &[u8]) -> Option<u64>
     Some(number)
 }
 
-// A number with one more digit behind it, if the byte is a digit and the new number is below 2^64.
+// A number with one more digit after it, if the byte is a digit and the new number is below 2^64.
 fn with_digit(number: u64, byte: u8) -> Option<u64>
     ensures { SomeIff result ((digit_value byte < 10) × (number * 10 + digit_value byte < 2 ^ 64)) (number * 10 + digit_value byte) }
 {

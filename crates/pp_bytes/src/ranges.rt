@@ -20,7 +20,7 @@ impl Model for Ranges {
 
     ghost Value = { List (ℕ × ℕ) };
 
-    ghost use Rattle.pp_bytes.specs.Pairs.{pairs_in_use, HoldsRanges, padded, padded-in_use};
+    ghost use Rattle.pp_bytes.specs.steps.Pairs.{pairs_in_use, HoldsRanges, padded, padded-in_use};
 
     ghost view = { pairs_in_use };
 
@@ -78,7 +78,7 @@ impl Ranges {
                 .all(|(_, before)| *before < lo && *before + 1 < lo)
     }
 
-    /// Adds the pair (lo, hi) behind all others.
+    /// Adds the pair (lo, hi) after all others.
     pub fn push(&mut self, lo: u8, hi: u8)
         requires { CanFollow self.old lo hi }
         ensures { self.new ≡ self.old ++ (lo, hi) ∷ [] }

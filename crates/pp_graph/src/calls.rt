@@ -179,7 +179,7 @@ pub(crate) fn size_of(set: &Option<ByteSet>) -> usize
     ensures { result ≡ size_of_set set.now }
 {
     match set {
-        Some(bytes) => bytes.len(),
+        Some(bytes) => bytes.len() as usize,
         None => 1,
     }
 }

@@ -6,7 +6,7 @@ abbrev pub with_added : Option (List ℕ) → List ℕ → Option (List ℕ)
 with_added None part = None
 with_added (Some bytes) part = Some (bytes ++ part)
 
--- the part was added behind what was written; a sink that tells nothing goes on telling nothing
+-- the part was added after what was written; a sink that tells nothing goes on telling nothing
 abbrev pub Adds : Option (List ℕ) → Option (List ℕ) → List ℕ → Type 0
 Adds old new part = new ≡ with_added old part
 

@@ -9,8 +9,6 @@ mod sink;
 mod source;
 mod steps;
 mod streams;
-#[cfg(test)]
-mod tests;
 mod writing;
 
 pub use clean::{CleanSink, CleanSource};

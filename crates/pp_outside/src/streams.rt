@@ -1,5 +1,6 @@
 // std's readers and writers as sources and sinks. Here the program touches the world, and tells nothing of content.
-ghost use Rattle.std.specs.Prelude.{◌≡◌, ◌<◌, ◌≤◌, ◌^◌, ℕ, None, length, IfOk};
+ghost use Rattle.std.specs.Prelude.{◌≡◌, ◌<◌, ◌≤◌, ◌^◌, Ok, None, length, IfOk};
+ghost use Rattle.std.specs.Io.KnownBytes.{ReadConsumes, WriteAppends};
 ghost use Rattle.pp_outside.specs.Faults.{count_after};
 
 use crate::failed::Failed;
@@ -8,7 +9,7 @@ use crate::source::Source;
 use std::io::{Read, Write};
 use std::marker::Model;
 
-/// A reader of std as a source. Contracts see it as its count of faults.
+/// A reader of std as a source. Contracts see the reader and the count of its faults.
 #[derive(Debug, Drop)]
 pub struct ReadSource<R> {
     inner: R,
@@ -16,9 +17,14 @@ pub struct ReadSource<R> {
 }
 
 impl<R> Model for ReadSource<R> {
-    ghost Value = { ℕ };
+    ghost use Rattle.std.specs.Prelude.{◌<◌, ◌^◌};
+    ghost use Rattle.pp_outside.specs.Streams.{Counted, counted_code};
 
-    ghost view = { λ s. s.faults };
+    ghost Value = { Counted R };
+
+    ghost coded = { counted_code R.code };
+
+    ghost view = { λ s. record { inner = s.inner; faults = s.faults } };
 
     ghost invariant = { λ s. s.faults < 2 ^ 64 };
 }
@@ -26,7 +32,8 @@ impl<R> Model for ReadSource<R> {
 impl<R> ReadSource<R> {
     /// A source without faults.
     pub fn new(inner: R) -> Self
-        ensures { result ≡ 0 }
+        ensures reader { result.inner ≡ inner }
+        ensures clean { result.faults ≡ 0 }
     {
         ReadSource { inner, faults: 0 }
     }
@@ -35,15 +42,18 @@ impl<R> ReadSource<R> {
 impl<R: Read> Source for ReadSource<R> {
     ghost left = { λ _. None };
 
-    ghost faults = { λ s. s };
+    ghost faults = { λ s. s.faults };
 
-    /// Each error of the reader is one fault. An empty buffer is answered without a call.
+    /// Each error of the reader is one fault. An empty buffer is answered without a call. Of a reader whose bytes std
+    /// tells, an answer moves just these bytes, a failure moves none, and only its end is told as the end.
     fn read(&mut self, into: &mut [u8]) -> Result<usize, Failed>
         ensures bound { IfOk result (λ n. n ≤ length into.new) }
+        ensures read { ReadConsumes (R.remaining self.old.inner) (R.remaining self.new.inner) result into.new }
         ensures empty { length into.new ≡ 0 → result ≡ Ok 0 }
-        ensures counted { self.new ≡ count_after self.old result }
-        ensures never_falls { self.old ≤ self.new }
-        ensures fits { self.new < 2 ^ 64 }
+        ensures no_call { length into.new ≡ 0 → self.new ≡ self.old }
+        ensures counted { self.new.faults ≡ count_after self.old.faults result }
+        ensures never_falls { self.old.faults ≤ self.new.faults }
+        ensures fits { self.new.faults < 2 ^ 64 }
     {
         let ReadSource { inner, faults } = self;
         if into.is_empty() {
@@ -56,7 +66,7 @@ impl<R: Read> Source for ReadSource<R> {
     }
 }
 
-/// A writer of std as a sink. Contracts see it as its count of faults.
+/// A writer of std as a sink. Contracts see the writer and the count of its faults.
 #[derive(Debug, Drop)]
 pub struct WriteSink<W> {
     inner: W,
@@ -64,9 +74,14 @@ pub struct WriteSink<W> {
 }
 
 impl<W> Model for WriteSink<W> {
-    ghost Value = { ℕ };
+    ghost use Rattle.std.specs.Prelude.{◌<◌, ◌^◌};
+    ghost use Rattle.pp_outside.specs.Streams.{Counted, counted_code};
 
-    ghost view = { λ s. s.faults };
+    ghost Value = { Counted W };
+
+    ghost coded = { counted_code W.code };
+
+    ghost view = { λ s. record { inner = s.inner; faults = s.faults } };
 
     ghost invariant = { λ s. s.faults < 2 ^ 64 };
 }
@@ -74,7 +89,8 @@ impl<W> Model for WriteSink<W> {
 impl<W> WriteSink<W> {
     /// A sink without faults.
     pub fn new(inner: W) -> Self
-        ensures { result ≡ 0 }
+        ensures writer { result.inner ≡ inner }
+        ensures clean { result.faults ≡ 0 }
     {
         WriteSink { inner, faults: 0 }
     }
@@ -83,17 +99,20 @@ impl<W> WriteSink<W> {
 impl<W: Write> Sink for WriteSink<W> {
     ghost written = { λ _. None };
 
-    ghost faults = { λ s. s };
+    ghost faults = { λ s. s.faults };
 
     /// Each error of the writer is one fault, and so is a write of a part that is not empty which takes nothing.
-    /// An empty part is answered without a call.
+    /// An empty part is answered without a call. A writer whose bytes std tells has just the bytes that were answered
+    /// added, and none at a failure.
     fn write(&mut self, part: &[u8]) -> Result<usize, Failed>
         ensures bound { IfOk result (λ n. n ≤ length part.now) }
         ensures some { IfOk result (λ n. 0 < length part.now → 0 < n) }
+        ensures written { WriteAppends (W.contents self.old.inner) (W.contents self.new.inner) result part.now }
         ensures empty { length part.now ≡ 0 → result ≡ Ok 0 }
-        ensures counted { self.new ≡ count_after self.old result }
-        ensures never_falls { self.old ≤ self.new }
-        ensures fits { self.new < 2 ^ 64 }
+        ensures no_call { length part.now ≡ 0 → self.new ≡ self.old }
+        ensures counted { self.new.faults ≡ count_after self.old.faults result }
+        ensures never_falls { self.old.faults ≤ self.new.faults }
+        ensures fits { self.new.faults < 2 ^ 64 }
     {
         let WriteSink { inner, faults } = self;
         if part.is_empty() {

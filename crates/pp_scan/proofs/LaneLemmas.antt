@@ -11,7 +11,7 @@ use Rattle.std.specs.Int.{bit_at, trailing_ones}
 use Rattle.std.specs.List.{prefix_len}
 use Rattle.std.specs.Simd.Lanes.{mask_l, top, zip2}
 use Rattle.pp_bytes.specs.Ranges.{in_pair, in_ranges}
-use Rattle.pp_scan.specs.Lanes.{bits_of}
+use Rattle.pp_scan.specs.steps.Lanes.{bits_of}
 
 -- two tests that agree at each byte have the same bits
 bits_agree : (p q : ℕ → Bool) (block : List ℕ) → ((b : ℕ) → p b ≡ q b) → map p block ≡ map q block

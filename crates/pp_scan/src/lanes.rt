@@ -2,7 +2,7 @@
 ghost use Rattle.std.specs.Prelude.{◌≡◌, ◌≤◌, length, take};
 ghost use Rattle.std.specs.List.{prefix_len};
 ghost use Rattle.pp_bytes.specs.Ranges.{in_pair, in_ranges};
-ghost use Rattle.pp_scan.specs.Lanes.{bits_of};
+ghost use Rattle.pp_scan.specs.steps.Lanes.{bits_of};
 
 use pp_bytes::Ranges;
 use std::simd::prelude::*;

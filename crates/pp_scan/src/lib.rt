@@ -5,6 +5,3 @@ mod lanes;
 mod run;
 
 pub use run::run_of;
-
-#[cfg(test)]
-mod tests;

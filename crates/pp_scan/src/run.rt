@@ -22,7 +22,7 @@ pub fn run_of(ranges: &Ranges, bytes: &[u8]) -> usize
     at + plain_run(ranges, &bytes[at..])
 }
 
-// The same, byte by byte.
+// The length of the longest prefix whose bytes all lie in the ranges, byte by byte.
 fn plain_run(ranges: &Ranges, bytes: &[u8]) -> usize
     ensures { result ≡ prefix_len (in_ranges ranges.now) bytes.now }
 {

@@ -254,7 +254,7 @@ impl Calls {
         ensures answer { IfOk result (λ led. IsAnswer led self.new (AddsKeys line key_use target.now (keys_of set) self.old)) }
         ensures count { IfOk result (λ led. length self.new.calls ≤ length self.old.calls + 256) }
     {
-        let calls = set.len();
+        let calls = set.len() as usize;
         if self.builder.last_node() != LastNode::Match {
             return Ok(calls == 0);
         }

@@ -1,7 +1,7 @@
 use Rattle.std.proofs.Common.{ℕ, take, bit_or, ap, sym, ◌∙◌, arith}
 use Rattle.std.proofs.lemmas.Option.{get_or_from_slice_get}
 use Rattle.pp_bytes.specs.Ranges.{in_pair, in_ranges}
-use Rattle.pp_scan.specs.Lanes.{bits_of}
+use Rattle.pp_scan.specs.steps.Lanes.{bits_of}
 use Rattle.pp_scan.proofs.LaneLemmas.{bits_of_none, bits_of_more}
 use Rattle.pp_scan.proofs.lanes.bits_in_ranges.Goals as goal
 

@@ -1,6 +1,6 @@
 use Rattle.std.proofs.Common.{◌≡◌, ℕ, ◌+◌, ◌≤◌, refl, arith, subst}
 use Rattle.std.proofs.lemmas.Bool.{both_ways}
-use Rattle.pp_bytes.specs.Found.{HasRunsBelow}
+use Rattle.pp_bytes.specs.steps.Found.{HasRunsBelow}
 use Rattle.pp_bytes.specs.Runs.{runs_of}
 use Rattle.pp_bytes.proofs.RunLemmas.{all_runs, same_bytes}
 use Rattle.pp_bytes.proofs.byte_set.ByteSet.ranges.Goals as goal

@@ -1,4 +1,4 @@
-use Rattle.pp_bytes.specs.Found.{HasRunsBelow}
+use Rattle.pp_bytes.specs.steps.Found.{HasRunsBelow}
 use Rattle.pp_bytes.proofs.byte_set.ByteSet.ranges.Given as goal
 
 abbrev pub invariant-loop-b : goal.invariant-loop-b

@@ -8,14 +8,14 @@ use Rattle.pp_bytes.specs.declared.ranges.Ranges.TheInside.{Inside}
 abbrev pub pairs_in_use : Inside → List (ℕ × ℕ)
 pairs_in_use a = take a.count a.pairs
 
--- there are 8 places, the pairs in use have the form of ranges, and the places behind them are (0, 0)
+-- there are 8 places, the pairs in use have the form of ranges, and the places after them are (0, 0)
 pub record HoldsRanges (a : Inside) : Type 0 where
   pub places : length a.pairs ≡ 8
   pub within : a.count ≤ 8
   pub form : IsRanges (pairs_in_use a)
   pub rest : drop a.count a.pairs ≡ replicate (8 - a.count) (0, 0)
 
--- fields
+-- the fields with these values
 abbrev fields : List (ℕ × ℕ) → ℕ → Inside
 fields pairs count = record { pairs = pairs; count = count }
 

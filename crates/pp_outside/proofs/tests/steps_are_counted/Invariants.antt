@@ -1,5 +1,0 @@
--- The ledger is the one that the blank opens.
-use Rattle.pp_outside.proofs.tests.steps_are_counted.Given as goal
-
-abbrev pub ghosts-two_steps : goal.ghosts-two_steps
-ghosts-two_steps a = record { name = a.blank.name; parts = a.blank.parts }
