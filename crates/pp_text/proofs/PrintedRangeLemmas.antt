@@ -13,7 +13,7 @@ use Rattle.pp_graph.specs.Plan.{Plan}
 use Rattle.pp_graph.proofs.TableLemmas.{Each}
 use Rattle.pp_graph.proofs.EachLemmas.{each-map, each-both, each-append}
 use Rattle.pp_text.specs.Statements.{CodeFits, KindFits}
-use Rattle.pp_text.specs.Printable.{CodeInRange, KeyInRange, PeekInRange, AnswerInRange, KindInRange, NodeInRange}
+use Rattle.pp_graph.specs.Ranges.{CodeInRange, KeyInRange, PeekInRange, AnswerInRange, KindInRange, NodeInRange}
 use Rattle.pp_text.specs.Telling.{calls_of, prop_call, host_call, span_call, finish_calls, node_calls, edge_calls, key_call, peek_call, answer_call, other_call, else_call, node_name, named_code, named_kind}
 use Rattle.pp_text.proofs.ListLemmas.{each-all, each-from_is, each-map_of}
 use Rattle.pp_text.proofs.SuitLemmas.{each-calls}

@@ -5,6 +5,5 @@ pub mod Keys
 pub mod Statements
 pub mod Text
 pub mod Printed
-pub mod Printable
 pub mod Outcome
 pub mod steps

@@ -17,6 +17,7 @@ use Rattle.pp_rules.specs.declared.call.BuilderCall.{BuilderCall}
 use Rattle.pp_rules.specs.declared.call.BuilderCall.TheVariants as call
 use Rattle.pp_rules.specs.Names.{IsName}
 use Rattle.pp_graph.specs.Calls.{HasForm}
+use Rattle.pp_graph.specs.Ranges.{NumberInRange}
 use Rattle.pp_text.specs.Tokens.{Token, Word, Quoted}
 use Rattle.pp_text.specs.Keys.{GiveKeys}
 
@@ -137,9 +138,9 @@ Fits (call.Finish prop host) = Unit {0}
 Fits (call.Node name what) = KindFits what
 Fits (call.Edge when target) = EdgeFits when
 
+-- a number that an edge carries, if it carries one, has 32 bits
 abbrev pub NumberFits : Option ℕ → Type 0
-NumberFits none = Unit {0}
-NumberFits (Some number) = number < 2 ^ 32
+NumberFits number = NumberInRange number
 
 -- the tokens are `on`, keys, a number or none, and a node behind the arrow
 pub record AreKeys (tokens : List Token) (keys : List (List ℕ)) (number : Option ℕ) (target : List ℕ) : Type 0 where

@@ -117,6 +117,13 @@ pub record TextFrom (room line : ℕ) (before : Option Told) (bytes : List ℕ) 
 abbrev pub BeginWithText : List ℕ → Told → ℕ → List ℕ → Type 0
 BeginWithText bytes told last rest = TextFrom limit 1 none bytes told last rest
 
+-- the bytes are a graph text of these calls, and nothing follows it
+pub record IsTextOf (bytes : List ℕ) (calls : List BuilderCall) : Type 0 where
+  pub told : Told
+  pub last : ℕ
+  pub text : BeginWithText bytes told last []
+  pub calls_are : told.calls ≡ calls
+
 -- the first line is whole within so many bytes
 abbrev pub IsWithin : ℕ → List ℕ → Line → Type 0
 IsWithin room bytes line = length bytes ≤ room + length (rest_of line)

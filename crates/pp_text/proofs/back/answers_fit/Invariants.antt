@@ -1,7 +1,0 @@
-use Rattle.std.proofs.Common.{take}
-use Rattle.std.specs.Prelude.{All}
-use Rattle.pp_text.specs.Printable.{AnswerInRange}
-use Rattle.pp_text.proofs.back.answers_fit.Given as goal
-
-abbrev pub invariant-loop-answer : goal.invariant-loop-answer
-invariant-loop-answer l = All AnswerInRange (take l.answer-index l.answers)

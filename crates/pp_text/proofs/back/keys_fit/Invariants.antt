@@ -1,7 +1,0 @@
-use Rattle.std.proofs.Common.{take}
-use Rattle.std.specs.Prelude.{All}
-use Rattle.pp_text.specs.Printable.{KeyInRange}
-use Rattle.pp_text.proofs.back.keys_fit.Given as goal
-
-abbrev pub invariant-loop-key : goal.invariant-loop-key
-invariant-loop-key l = All KeyInRange (take l.key-index l.keys)

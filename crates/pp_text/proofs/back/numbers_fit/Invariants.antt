@@ -1,7 +1,0 @@
-use Rattle.std.proofs.Common.{take}
-use Rattle.std.specs.Prelude.{All}
-use Rattle.pp_text.specs.Printable.{NodeInRange}
-use Rattle.pp_text.proofs.back.numbers_fit.Given as goal
-
-abbrev pub invariant-loop-node : goal.invariant-loop-node
-invariant-loop-node l = All NodeInRange (take l.node-index l.node-items)
