@@ -1,5 +1,5 @@
 -- What a builder knows after the edges of a set.
-use Rattle.std.proofs.Common.{◌≡◌, ℕ, ◌+◌, ◌<◌, List, [], ◌∷◌, ◌++◌, Bool, true, false, Option, Some, length, map, ap, ap₂, subst, refl, ◌∙◌, sym, arith, append_assoc}
+use Rattle.std.proofs.Common.{◌≡◌, ℕ, ◌+◌, ◌<◌, List, [], ◌∷◌, ◌++◌, Bool, length, map, subst, refl, sym, arith, append_assoc}
 use Rattle.std.proofs.lemmas.List.{append-nil, length_push}
 use Rattle.pp_rules.specs.declared.call.BuilderCall.{BuilderCall}
 use Rattle.pp_rules.specs.declared.kept.ByteUse.{ByteUse}

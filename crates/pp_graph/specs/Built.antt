@@ -2,9 +2,6 @@
 use Rattle.std.specs.Prelude.{ℕ, List, [], ◌∷◌, Option, Some, false, bytes_eq, filter_map, unwrap_or}
 use Rattle.std.specs.Prelude.{None as none}
 use Rattle.std.specs.List.{position_or_len}
-use Rattle.pp_rules.specs.declared.declaration.PropDecl.{PropDecl}
-use Rattle.pp_rules.specs.declared.declaration.HostDecl.{HostDecl}
-use Rattle.pp_rules.specs.declared.declaration.SpanDecl.{SpanDecl}
 use Rattle.pp_graph.specs.declared.node.Code.{Code}
 use Rattle.pp_graph.specs.declared.node.Code.TheVariants as placed_code
 use Rattle.pp_graph.specs.declared.node.Key.{Key}
@@ -24,7 +21,7 @@ use Rattle.pp_rules.specs.declared.call.NamedEdge.TheVariants as edge
 use Rattle.pp_rules.specs.declared.call.BuilderCall.{BuilderCall}
 use Rattle.pp_rules.specs.declared.call.BuilderCall.TheVariants as call
 use Rattle.pp_graph.specs.Plan.{Plan}
-use Rattle.pp_rules.specs.Calls.{own_calls, names_of}
+use Rattle.pp_rules.specs.Calls.{own_calls}
 use Rattle.pp_rules.specs.Declarations.{Tables, host_decl, span_decl, tables_of, greatest_of}
 
 -- the place of the first of these names that is equal, or their count

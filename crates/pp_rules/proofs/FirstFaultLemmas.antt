@@ -1,6 +1,6 @@
 -- The first call at which a rule fails: from the first kept call at which it does, and what follows of it.
 use Rattle.std.proofs.Common.{◌≡◌, ℕ, zero, suc, ◌∷◌, [], ◌<◌, ◌≤◌, inl, inr, Bool, true, false, ◌&&◌, ◌==◌, List, Option, Some, length, take, get_or, refl, ap, sym, ◌∙◌, subst, arith}
-use Rattle.std.specs.Prelude.{IsNone, IsTrue, IfSome, sum_by}
+use Rattle.std.specs.Prelude.{sum_by}
 use Rattle.std.specs.Prelude.{None as none}
 use Rattle.std.specs.FinSet as set
 use Rattle.std.specs.Ordering.{nat_cmp}

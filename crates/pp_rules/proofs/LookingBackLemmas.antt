@@ -1,5 +1,5 @@
 -- Where the rules that look back fail: among a few calls behind others, and among the edges of a set.
-use Rattle.std.proofs.Common.{◌≡◌, ℕ, zero, suc, ◌+◌, ◌-◌, ◌<◌, ◌≤◌, List, [], ◌∷◌, ◌++◌, true, false, Option, Some, option_map, length, slice_get, take, drop, map, get_or, refl, ap, ap₂, sym, ◌∙◌, ◌⊎◌, inl, inr, subst, arith, append_assoc}
+use Rattle.std.proofs.Common.{◌≡◌, ℕ, zero, suc, ◌+◌, ◌-◌, ◌<◌, ◌≤◌, List, [], ◌∷◌, ◌++◌, true, false, Option, Some, option_map, length, slice_get, take, drop, map, get_or, refl, ap, ap₂, sym, ◌∙◌, inl, inr, subst, arith, append_assoc}
 use Rattle.std.specs.Prelude.{None as none}
 use Rattle.std.specs.Prelude.{IsSomeAnd, IsTrue, ◌==◌, sum_by}
 use Rattle.std.specs.List.{filter}

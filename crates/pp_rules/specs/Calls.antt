@@ -1,5 +1,5 @@
 -- The calls of a builder: what they declare and name, and those that belong to a node.
-use Rattle.std.specs.Prelude.{if◌then◌else◌, ℕ, ◌+◌, List, [], ◌∷◌, ◌++◌, Option, Some, Bool, true, false, ◌&&◌, bytes_eq, fold, filter_map}
+use Rattle.std.specs.Prelude.{if◌then◌else◌, ℕ, List, [], ◌∷◌, ◌++◌, Option, Some, Bool, true, false, ◌&&◌, bytes_eq, fold, filter_map}
 use Rattle.std.specs.Prelude.{None as none}
 use Rattle.std.specs.List.{list_any}
 use Rattle.pp_rules.specs.declared.call.NamedCode.{NamedCode}

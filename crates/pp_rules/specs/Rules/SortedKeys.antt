@@ -1,5 +1,5 @@
 -- The rule on two keys of one node where one begins the other: prefix gap.
-use Rattle.std.specs.Prelude.{ℕ, ◌+◌, List, ◌∷◌, ◌++◌, Option, Some, None, Bool, false, ◌||◌}
+use Rattle.std.specs.Prelude.{ℕ, List, ◌∷◌, ◌++◌, Option, Some, None, Bool, false, ◌||◌}
 use Rattle.std.specs.List.{list_any}
 use Rattle.pp_rules.specs.declared.call.NamedEdge.{NamedEdge}
 use Rattle.pp_rules.specs.declared.call.NamedEdge.TheVariants as edge

@@ -1,5 +1,5 @@
 -- The tables of what calls declare.
-use Rattle.std.specs.Prelude.{◌≡◌, ℕ, List, [], Bool, false, ◌&&◌, Option, filter_map, find, option_map, is_some, unwrap_or, bytes_eq}
+use Rattle.std.specs.Prelude.{◌≡◌, ℕ, List, [], Bool, ◌&&◌, Option, filter_map, find, option_map, bytes_eq}
 use Rattle.pp_rules.specs.declared.declared.names.Names.{Names}
 use Rattle.pp_rules.specs.declared.declaration.PropDecl.{PropDecl}
 use Rattle.pp_rules.specs.declared.declaration.Width.{Width}

@@ -1,6 +1,6 @@
 -- What tables of the calls answer: what is declared, and the first call that declares again; which nodes take a value, and
 -- the least of what the nodes of a name can store.
-use Rattle.std.specs.Prelude.{◌≡◌, ℕ, ◌<◌, ◌^◌, length, List, Bool, false, Option, Some, nat_lt}
+use Rattle.std.specs.Prelude.{◌≡◌, ℕ, List, Bool, false, Option, Some, nat_lt}
 use Rattle.std.specs.Prelude.{None as none}
 use Rattle.std.specs.List.{list_any}
 use Rattle.pp_rules.specs.declared.call.BuilderCall.{BuilderCall}

@@ -1,5 +1,5 @@
 -- What the bytes are, to each result of reading a text.
-use Rattle.std.specs.Prelude.{◌≡◌, ℕ, ◌⊎◌, List, Option, None, Result, Ok, Err, max}
+use Rattle.std.specs.Prelude.{◌≡◌, ℕ, ◌⊎◌, List, None, Result, Ok, Err, max}
 use Rattle.pp_graph.specs.Plan.{Plan}
 use Rattle.pp_rules.specs.Rules.{IsFirstFault}
 use Rattle.pp_text.specs.declared.fault.TextFault.{TextFault}

@@ -1,6 +1,5 @@
-use Rattle.std.proofs.Common.{Option, refl, sym, subst}
-use Rattle.pp_rules.specs.declared.rules.GraphRule.{GraphRule}
-use Rattle.pp_rules.specs.declared.rules.GraphRule.TheVariants.{DuplicateName, UnknownName, NoEntry, NoOtherwise, KeyClash, PrefixGap, ValueTarget, ValueTooWide, EmptyKey, KeyNotFolded, TooMany}
+use Rattle.std.proofs.Common.{refl, sym, subst}
+use Rattle.pp_rules.specs.declared.rules.GraphRule.TheVariants.{DuplicateName, UnknownName, NoOtherwise, ValueTarget, ValueTooWide, EmptyKey}
 use Rattle.pp_rules.specs.Rules.{FailsAt}
 use Rattle.pp_rules.specs.Sets.{all_calls}
 use Rattle.pp_rules.specs.steps.Least.{IsLeast}

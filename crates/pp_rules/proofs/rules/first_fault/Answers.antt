@@ -1,4 +1,3 @@
-use Rattle.std.proofs.Common.{Some}
 use Rattle.pp_rules.specs.Sets.{all_calls}
 use Rattle.pp_rules.proofs.FirstFaultLemmas.{fails-within}
 use Rattle.pp_rules.proofs.rules.first_fault.Goals as goal

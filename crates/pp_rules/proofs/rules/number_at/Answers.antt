@@ -1,6 +1,5 @@
 use Rattle.std.proofs.Common.{◌<◌, length, sym, subst, Some, arith}
 use Rattle.std.specs.Prelude.{IfSome}
-use Rattle.std.specs.Prelude.{None as none}
 use Rattle.pp_rules.specs.Rules.{FailsAt}
 use Rattle.pp_rules.specs.Sets.{all_calls}
 use Rattle.pp_rules.specs.steps.Least.{IsLeast}

@@ -1,5 +1,5 @@
 -- What the lines and the calls come to.
-use Rattle.std.proofs.Common.{Err, Ok, subst}
+use Rattle.std.proofs.Common.{subst}
 use Rattle.std.proofs.lemmas.Result.{err_from_is_err_and}
 use Rattle.std.specs.Prelude.{Option}
 use Rattle.pp_text.specs.steps.Rows.{LinesAre, IsLineFault, IsText}

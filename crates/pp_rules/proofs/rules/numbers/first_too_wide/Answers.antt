@@ -1,4 +1,4 @@
-use Rattle.std.proofs.Common.{◌≡◌, ◌<◌, take, length, get_or, false, refl, sym, subst, ◌∙◌, arith}
+use Rattle.std.proofs.Common.{◌≡◌, ◌<◌, length, get_or, false, sym, subst, ◌∙◌, arith}
 use Rattle.pp_rules.specs.declared.rules.GraphRule.TheVariants.{ValueTooWide}
 use Rattle.pp_rules.specs.Rules.{fails_at}
 use Rattle.pp_rules.proofs.RuleLemmas.{fails_at-within, kept-more}
