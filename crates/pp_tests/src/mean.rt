@@ -202,7 +202,10 @@ fn a_run_takes_each_step_by_its_rule(rt: HostRuntime) -> Result<(), Fail> {
                 at,
                 props,
                 answer,
-            } = item;
+            } = item
+            else {
+                return Err(Fail::from("no call"));
+            };
             assert_eq!(rt; (*code, *value, *at, *answer), (0, 0, *place, 0), "{name}");
             assert!(rt; props.is_empty() && props.len() == 0, "{name}");
         }

@@ -21,7 +21,7 @@ pub use Rattle.pp_text.specs.Outcome
 pub use Rattle.pp_text.specs.Printed
 pub use Rattle.pp_event.specs.Chain
 pub use Rattle.pp_event.specs.Run
-pub use Rattle.pp_event.specs.Answers
+pub use Rattle.pp_event.specs.Answers as RunAnswers
 pub use Rattle.pp_mean.specs.Nodes
 pub use Rattle.pp_mean.specs.Mean
 pub use Rattle.pp_mean.specs.Plain
