@@ -7,3 +7,4 @@ pub mod ValueLemmas
 pub mod Rows
 pub mod PlaceLemmas
 pub mod ComeLemmas
+pub mod OneReading

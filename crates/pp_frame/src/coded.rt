@@ -1,5 +1,5 @@
 // Chunked bodies.
-ghost use Rattle.std.specs.Prelude.{◌≡◌, ◌≤◌, ℕ, List, length, take, IfOk, OnOk, IsErrOf, IsTrue, IsFalse};
+ghost use Rattle.std.specs.Prelude.{◌≡◌, ◌≤◌, ℕ, List, length, take, IfOk, OnOk, IsErrOf, IsTrue, IsFalse, MatchResult, ◌⊎◌};
 ghost use Rattle.pp_frame.specs.declared.coded.ChunkFault.TheVariants.{NoMemory as no_memory};
 ghost use Rattle.pp_frame.specs.Chunked.{IsChunked, IsChunkedFront, IsFirstWrong};
 ghost use Rattle.pp_frame.specs.steps.Places.{kept};
@@ -55,6 +55,9 @@ pub fn chunk_data(alloc: Global, bytes: &[u8]) -> Result<Chunks, ChunkFault>
     ensures whole { IfOk result (λ found. IsTrue found.whole → IsChunked (take found.used bytes.now) found.body.items) }
     ensures cut_off { IfOk result (λ found. IsFalse found.whole → (found.used ≡ length bytes.now) × IsChunkedFront bytes.now found.body.items) }
     ensures form { (offset : ℕ) → IsErrOf result (ChunkFault.Form offset) → IsFirstWrong bytes.now offset }
+    ensures whole_only { (used : ℕ) (body : List ℕ) → used ≤ length bytes.now → IsChunked (take used bytes.now) body → MatchResult result (λ found. (found.used ≡ used) × (found.body.items ≡ body) × IsTrue found.whole) (λ e. e ≡ no_memory) }
+    ensures cut_off_only { (body : List ℕ) → IsChunkedFront bytes.now body → MatchResult result (λ found. (found.used ≡ length bytes.now) × (found.body.items ≡ body) × IsFalse found.whole) (λ e. e ≡ no_memory) }
+    ensures form_only { (offset : ℕ) → IsFirstWrong bytes.now offset → MatchResult result (λ _. ⊥) (λ e. (e ≡ ChunkFault.Form offset) ⊎ (e ≡ no_memory)) }
 {
     let mut body = Vec::new(alloc);
     let mut place = Place::FirstDigit;
