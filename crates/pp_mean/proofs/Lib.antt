@@ -1,4 +1,5 @@
 pub mod EachLemmas
 pub mod PlainLaws
 pub mod WholeLaws
+pub mod EndLaws
 mod Rows

@@ -5,7 +5,7 @@ use Rattle.std.specs.List.{Contains}
 use Rattle.std.proofs.lemmas.List.{get_or-set_same, get_or-set_other, map-append, drop-drop}
 use Rattle.std.proofs.lemmas.List.Elements.{Contains-append_left, Contains-append_right, Contains-append_cases}
 use Rattle.std.proofs.lemmas.Bool.{eq-eqb, eqb-true, eqb-false}
-use Rattle.std.proofs.lemmas.Option.{slice_get_cases, slice_get-get_or}
+use Rattle.std.proofs.lemmas.Option.{slice_get_cases, slice_get-get_or, slice_get_within}
 use Rattle.std.proofs.lemmas.Grind.{get_or_default_zero}
 use Rattle.pp_graph.specs.declared.node.Node.{Node}
 use Rattle.pp_graph.specs.Plan.{Plan, IsWellFormed, FitsIn}
@@ -71,7 +71,7 @@ Contains_head x xs y c = at c.0 c.1 c.2
     at zero h e = inl e
     at (suc k) h e = inr (k, omega arith, e)
 
-Contains-none : {X : Type 0} (x : X) → Contains [] x → ⊥
+pub Contains-none : {X : Type 0} (x : X) → Contains [] x → ⊥
 Contains-none x c = at c.0 c.1
   where
     at : (k : ℕ) → k < 0 → ⊥
@@ -128,7 +128,6 @@ pub record Comes (g : Plan) (bytes : List ℕ) (items : List Item) (node at : �
   pub once : NoneTwice (stands g bytes moves_made)
   pub marks : Marks seen (stands g bytes moves_made) at
   pub long : length seen ≡ length g.nodes
-  pub node_in : node < length g.nodes
   pub at_in : at ≤ length bytes
 
 -- the chain so far with one stage more
@@ -138,19 +137,18 @@ stands_on g bytes n s e = ap (map stand) (stages_on (moves g) n (begin g bytes) 
 
 -- it goes on from a node that isn't marked
 comes_on : (g : Plan) (bytes : List ℕ) (items more : List Item) (node target at place : ℕ) (seen : List ℕ) → (c : Comes g bytes items node at seen) →
-    (get_or seen node 0 ≡ at + 1 → ⊥) → moves g (stage_at g bytes items node at) ≡ On (stage_at g bytes more target place) → target < length g.nodes → place ≤ length bytes →
+    node < length seen → (get_or seen node 0 ≡ at + 1 → ⊥) → moves g (stage_at g bytes items node at) ≡ On (stage_at g bytes more target place) → place ≤ length bytes →
     Marks (set seen node (at + 1)) (stands g bytes c.moves_made ++ (node, at) ∷ []) place →
     Comes g bytes more target place (set seen node (at + 1))
-comes_on g bytes items more node target at place seen c fresh e t p m =
+comes_on g bytes items more node target at place seen c inside fresh e p m =
     let met : List (ℕ × ℕ) = stands g bytes c.moves_made in
     let longer : stands g bytes (suc c.moves_made) ≡ met ++ (node, at) ∷ [] = stands_on g bytes c.moves_made (stage_at g bytes items node at) c.there in
     record {
       moves_made = suc c.moves_made;
       there = after_on (moves g) c.moves_made (begin g bytes) (stage_at g bytes items node at) (stage_at g bytes more target place) c.there e;
-      once = subst NoneTwice (sym longer) (NoneTwice-one_more met (node, at) c.once (λ h. fresh (c.marks.met_marked node (omega (arith, c.long, c.node_in)) h)));
+      once = subst NoneTwice (sym longer) (NoneTwice-one_more met (node, at) c.once (λ h. fresh (c.marks.met_marked node inside h)));
       marks = subst (λ (l : List (ℕ × ℕ)). Marks (set seen node (at + 1)) l place) (sym longer) m;
       long = length-set seen node (at + 1) ∙ c.long;
-      node_in = t;
       at_in = p;
     }
 
@@ -175,16 +173,16 @@ move_asks g bytes items node at target host h = ap (move_by (by_list []) (stage_
 
 -- the run ends at a node that isn't marked
 comes_over : (g : Plan) (bytes : List ℕ) (items : List Item) (node at : ℕ) (seen : List ℕ) (w : WholeRun) (r : RunResult) → Comes g bytes items node at seen →
-    (get_or seen node 0 ≡ at + 1 → ⊥) → moves g (stage_at g bytes items node at) ≡ Over r →
+    node < length seen → (get_or seen node 0 ≡ at + 1 → ⊥) → moves g (stage_at g bytes items node at) ≡ Over r →
     Shows r w → IsRun g bytes w
-comes_over g bytes items node at seen w r c fresh e shows =
+comes_over g bytes items node at seen w r c inside fresh e shows =
     let met : List (ℕ × ℕ) = stands g bytes c.moves_made in
     let longer : stands g bytes (suc c.moves_made) ≡ met ++ (node, at) ∷ [] = stands_on g bytes c.moves_made (stage_at g bytes items node at) c.there in
     record {
       moves_made = suc c.moves_made;
       result = r;
       ended = over_after (moves g) c.moves_made (begin g bytes) (stage_at g bytes items node at) r c.there e;
-      once = subst NoneTwice (sym longer) (NoneTwice-one_more met (node, at) c.once (λ h. fresh (c.marks.met_marked node (omega (arith, c.long, c.node_in)) h)));
+      once = subst NoneTwice (sym longer) (NoneTwice-one_more met (node, at) c.once (λ h. fresh (c.marks.met_marked node inside h)));
       shows = shows;
     }
 
@@ -243,7 +241,7 @@ module _ (g : Plan) (bytes : List ℕ) (items : List Item) (node at : ℕ) (seen
   begins = subst (λ (o : Option ℕ). BeginsWith o (drop at bytes)) turning.next_is (begins-drop bytes at)
 
   in_seen : node < length seen
-  in_seen = omega (arith, turning.come.long, turning.come.node_in)
+  in_seen = omega (arith, turning.come.long, slice_get_within g.nodes node n turning.node_is)
 
   in_bytes : (takes : Bool) → (next ≡ None → takes ≡ false) → takes ≡ true → at < length bytes
   in_bytes takes none t = elim (slice_get_cases bytes at).1 [
@@ -255,37 +253,36 @@ module _ (g : Plan) (bytes : List ℕ) (items : List Item) (node at : ℕ) (seen
   stood = marks_stood seen (stands g bytes turning.come.moves_made) node at turning.come.marks in_seen
 
   pub takes_byte : (target : ℕ) (takes : Bool) → ((c : Config) (rest : List ℕ) → BeginsWith next rest → kind_turn n.kind c rest ≡ to c target (cond takes 1 0) 0) →
-      (next ≡ None → takes ≡ false) → takes ≡ true → target < length g.nodes →
+      (next ≡ None → takes ≡ false) → takes ≡ true →
       Comes g bytes items target (at + 1) (set seen node (at + 1)) × (left (length bytes) (at + 1) (set seen node (at + 1)) < left (length bytes) at seen)
-  takes_byte target takes turn none t below =
+  takes_byte target takes turn none t =
       let inside : at < length bytes = in_bytes takes none t in
       let one : kind_turn n.kind (config_at g node at) (drop at bytes) ≡ to (config_at g node at) target 1 0 =
       turn (config_at g node at) (drop at bytes) begins ∙ ap (λ (b : Bool). to (config_at g node at) target (cond b 1 0) 0) t in (
-        comes_on g bytes items items node target at (at + 1) seen turning.come turning.fresh
+        comes_on g bytes items items node target at (at + 1) seen turning.come in_seen turning.fresh
             (move_goes g bytes items node at target 1 (at + 1) refl (turn_at g (config_at g node at) (drop at bytes) n _ turning.node_is one))
-            below (omega arith) (marks_took (set seen node (at + 1)) (stands g bytes turning.come.moves_made ++ (node, at) ∷ []) at stood),
+            (omega arith) (marks_took (set seen node (at + 1)) (stands g bytes turning.come.moves_made ++ (node, at) ∷ []) at stood),
         left_on (length bytes) at node seen inside,
       )
 
   pub takes_none : (target : ℕ) (takes : Bool) → ((c : Config) (rest : List ℕ) → BeginsWith next rest → kind_turn n.kind c rest ≡ to c target (cond takes 1 0) 0) →
-      takes ≡ false → target < length g.nodes →
+      takes ≡ false →
       Comes g bytes items target at (set seen node (at + 1)) × (left (length bytes) at (set seen node (at + 1)) < left (length bytes) at seen)
-  takes_none target takes turn t below =
+  takes_none target takes turn t =
       let none : kind_turn n.kind (config_at g node at) (drop at bytes) ≡ to (config_at g node at) target 0 0 =
       turn (config_at g node at) (drop at bytes) begins ∙ ap (λ (b : Bool). to (config_at g node at) target (cond b 1 0) 0) t in (
-        comes_on g bytes items items node target at at seen turning.come turning.fresh
+        comes_on g bytes items items node target at at seen turning.come in_seen turning.fresh
             (move_goes g bytes items node at target 0 at (add-zero at) (turn_at g (config_at g node at) (drop at bytes) n _ turning.node_is none))
-            below turning.come.at_in stood,
+            turning.come.at_in stood,
         left_stay (length bytes) at node seen in_seen turning.fresh,
       )
 
   pub asks : (target host : ℕ) → ((c : Config) (rest : List ℕ) → BeginsWith next rest → kind_turn n.kind c rest ≡ Asks host c.carried (λ answer. record c { node = target; carried = 0 })) →
-      target < length g.nodes →
       Comes g bytes (items ++ Call host 0 at [] 0 ∷ []) target at (set seen node (at + 1)) × (left (length bytes) at (set seen node (at + 1)) < left (length bytes) at seen)
-  asks target host turn below = (
-    comes_on g bytes items (items ++ Call host 0 at [] 0 ∷ []) node target at at seen turning.come turning.fresh
+  asks target host turn = (
+    comes_on g bytes items (items ++ Call host 0 at [] 0 ∷ []) node target at at seen turning.come in_seen turning.fresh
         (move_asks g bytes items node at target host (turn_at g (config_at g node at) (drop at bytes) n _ turning.node_is (turn (config_at g node at) (drop at bytes) begins)))
-        below turning.come.at_in stood,
+        turning.come.at_in stood,
     left_stay (length bytes) at node seen in_seen turning.fresh,
   )
 
@@ -293,7 +290,7 @@ module _ (g : Plan) (bytes : List ℕ) (items : List Item) (node at : ℕ) (seen
       w.items ≡ items → IsEnd w.end node Waiting → w.at ≡ at → IsRun g bytes w
   waits_there w turn i e a =
       comes_over g bytes items node at seen w (record { finish = Waiting; last = record { config = config_at g node at; rest = []; items = items; resumes = 0 } })
-      turning.come turning.fresh
+      turning.come in_seen turning.fresh
       (ap (move_by (by_list []) (stage_at g bytes items node at)) (turn_at g (config_at g node at) (drop at bytes) n _ turning.node_is (turn (config_at g node at) (drop at bytes) begins)))
       (record { items = i; end = e; at = a })
 
@@ -301,7 +298,7 @@ module _ (g : Plan) (bytes : List ℕ) (items : List Item) (node at : ℕ) (seen
       w.items ≡ items → IsEnd w.end node (Failed code) → w.at ≡ at → IsRun g bytes w
   fails_there w code turn i e a =
       comes_over g bytes items node at seen w (record { finish = Failed code; last = stage_at g bytes items node at })
-      turning.come turning.fresh
+      turning.come in_seen turning.fresh
       (ap (move_by (by_list []) (stage_at g bytes items node at)) (turn_at g (config_at g node at) (drop at bytes) n _ turning.node_is (turn (config_at g node at) (drop at bytes) begins)))
       (record { items = i; end = e; at = a })
 
@@ -311,13 +308,13 @@ fresh_from seen node v m h e fresh t = fresh (e ∙ get_or_default_zero seen nod
 
 -- what the code's loop knows at a node that isn't marked, from what its reads gave
 pub turning_from : (g : Plan) (bytes : List ℕ) (items : List Item) (node at : ℕ) (seen : List ℕ) (nodes : List Node) (d : Node) (next : Option ℕ) (v : ℕ) →
-    Comes g bytes items node at seen → nodes ≡ g.nodes → v ≡ get_or seen node v → (v ≡ at + 1 → ⊥) → next ≡ slice_get bytes at →
+    Comes g bytes items node at seen → node < length g.nodes → nodes ≡ g.nodes → v ≡ get_or seen node v → (v ≡ at + 1 → ⊥) → next ≡ slice_get bytes at →
     Turning g bytes items node at seen (get_or nodes node d) next
-turning_from g bytes items node at seen nodes d next v come same read fresh is =
-    let inside : node < length nodes = rw same come.node_in in
+turning_from g bytes items node at seen nodes d next v come below same read fresh is =
+    let inside : node < length nodes = rw same below in
     record {
       come = come;
-      fresh = fresh_from seen node v (at + 1) (omega (arith, come.long, come.node_in)) read fresh;
+      fresh = fresh_from seen node v (at + 1) (omega (arith, come.long, below)) read fresh;
       node_is = ap (λ (l : List Node). slice_get l node) (sym same) ∙ slice_get-get_or nodes node d inside;
       next_is = sym is;
     }

@@ -1,10 +1,12 @@
 // Laws over the definitions, each the contract of a function without code.
-ghost use Rattle.std.specs.Prelude.{◌≡◌, ℕ, ◌+◌, List, Option, Some};
+ghost use Rattle.std.specs.Prelude.{◌≡◌, ◌⊎◌, ℕ, ◌+◌, List, [], Option, Some};
 ghost use Rattle.pp_graph.specs.Plan.{Plan};
 ghost use Rattle.pp_event.specs.Chain.{run_for};
 ghost use Rattle.pp_event.specs.Run.{Oracle, Stage, RunResult, move};
+ghost use Rattle.pp_event.specs.Answers.{by_list};
 ghost use Rattle.pp_mean.specs.Nodes.{graph_turn};
 ghost use Rattle.pp_mean.specs.Mean.{Means};
+ghost use Rattle.pp_mean.specs.Plain.{IsPlain};
 ghost use Rattle.pp_mean.specs.Whole.{ComesBack, IsRun};
 ghost use Rattle.pp_mean.specs.declared.whole.WholeRun.{WholeRun};
 
@@ -25,4 +27,10 @@ pub fn more_moves()
 pub fn run_or_loop()
     ensures { (g : Plan) (bytes : List ℕ) (w : WholeRun) (node : ℕ) (byte : Option ℕ) →
         IsRun g bytes w → ComesBack g bytes node byte → ⊥ }
+{}
+
+/// The run of a plain graph on a string, each answer being 0, has a result, or comes to a node twice at one place.
+pub fn ends_or_loops()
+    ensures { (g : Plan) (bytes : List ℕ) → IsPlain g →
+        ((r : RunResult) × Means g [] bytes (by_list []) 0 r) ⊎ ((node : ℕ) × (byte : Option ℕ) × ComesBack g bytes node byte) }
 {}

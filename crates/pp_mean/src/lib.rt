@@ -6,7 +6,7 @@ mod plain;
 mod step;
 mod whole;
 
-pub use laws::{at_most_one_run, more_moves, run_or_loop};
+pub use laws::{at_most_one_run, ends_or_loops, more_moves, run_or_loop};
 pub use plain::is_plain;
 pub use pp_event::{Item, Props};
 pub use whole::{End, MeanFault, WholeRun, run_whole};
