@@ -143,6 +143,7 @@ fn a_graph_tells_its_parts(rt: HostRuntime) -> Result<(), Fail> {
         byte: b'y',
         target: 0,
     };
+    assert_eq!(rt; peeks.items().len(), 3);
     assert_eq!(rt; peeks.items()[1], peek);
     Ok(())
 }
@@ -151,6 +152,7 @@ fn a_graph_tells_its_parts(rt: HostRuntime) -> Result<(), Fail> {
 #[test]
 fn a_most_that_is_not_given_is_that_of_the_property(rt: HostRuntime) -> Result<(), Fail> {
     let graph = by_every_call(&rt, rt.alloc())?;
+    assert_eq!(rt; graph.nodes().len(), 3);
     let Kind::Invoke { code, .. } = &graph.nodes()[1].kind else {
         return Err(Fail::from("no invoke node"));
     };
