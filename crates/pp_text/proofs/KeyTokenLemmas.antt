@@ -51,7 +51,7 @@ word-or-key (Quoted inside) word key = word
 word-or-key (Bracketed inside) word key = word
 
 -- tokens split before their first word in one way
-keys-unique : (a c b d : List Token) → AreKeyTokens a → AreKeyTokens c → StartsWithWord b → StartsWithWord d → a ++ b ≡ c ++ d → (a ≡ c) × (b ≡ d)
+pub keys-unique : (a c b d : List Token) → AreKeyTokens a → AreKeyTokens c → StartsWithWord b → StartsWithWord d → a ++ b ≡ c ++ d → (a ≡ c) × (b ≡ d)
 keys-unique [] [] b d p q v w e = (refl, e)
 keys-unique [] (y ∷ c) b d p q v w e = absurd (word-or-key y (subst StartsWithWord e v) q.0)
 keys-unique (x ∷ a) [] b d p q v w e = absurd (word-or-key x (subst StartsWithWord (sym e) w) p.0)
@@ -62,7 +62,7 @@ keys-unique (x ∷ a) (y ∷ c) b d p q v w e =
     (cc same.0, same.1)
 
 -- a number or the arrow is a word
-carried-word : (number : Option ℕ) (target : List ℕ) → StartsWithWord (carried_tokens number ++ arrow_tokens target)
+pub carried-word : (number : Option ℕ) (target : List ℕ) → StartsWithWord (carried_tokens number ++ arrow_tokens target)
 carried-word None target = tt
 carried-word (Some number) target = tt
 
@@ -71,7 +71,7 @@ behind : (first next : Token) (rest others : List Token) → first ∷ rest ≡ 
 behind first next rest others e = cc
 
 -- `on` is the word of no call
-no-call-on : IsNoCall (codes "on")
+pub no-call-on : IsNoCall (codes "on")
 no-call-on = record { no_prop = apart (codes "on") (codes "prop") refl; no_host = apart (codes "on") (codes "host") refl; no_span = apart (codes "on") (codes "span") refl; no_entry = apart (codes "on") (codes "entry") refl; no_finish = apart (codes "on") (codes "finish") refl; no_node = apart (codes "on") (codes "node") refl; no_is = apart (codes "on") (codes "is") refl; no_else = apart (codes "on") (codes "else") refl; no_skip = apart (codes "on") (codes "skip") refl }
 
 -- a statement that begins with `on`, whose tokens split at the first word
@@ -94,7 +94,7 @@ on-parts rest keys others split are word (SomeKeys written number target) s =
 on-parts rest keys others split are word (SomePeeks written target) s = absurd (apart (codes "on") (codes "peek") refl (first-word _ _ rest _ s.0.spelled))
 
 -- `peek` is the word of no call
-no-call-peek : IsNoCall (codes "peek")
+pub no-call-peek : IsNoCall (codes "peek")
 no-call-peek = record { no_prop = apart (codes "peek") (codes "prop") refl; no_host = apart (codes "peek") (codes "host") refl; no_span = apart (codes "peek") (codes "span") refl; no_entry = apart (codes "peek") (codes "entry") refl; no_finish = apart (codes "peek") (codes "finish") refl; no_node = apart (codes "peek") (codes "node") refl; no_is = apart (codes "peek") (codes "is") refl; no_else = apart (codes "peek") (codes "else") refl; no_skip = apart (codes "peek") (codes "skip") refl }
 
 -- a statement that begins with `peek`, whose tokens split at the first word

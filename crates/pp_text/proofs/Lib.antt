@@ -37,3 +37,9 @@ pub mod PrintedTextLemmas
 pub mod PrintedLengthLemmas
 pub mod PrintedRangeLemmas
 pub mod PrintedBackLemmas
+pub mod OneRowLemmas
+pub mod OneCallLemmas
+pub mod OneKeyLemmas
+pub mod OneStatementLemmas
+pub mod OneTextLemmas
+pub mod OneReadingLemmas

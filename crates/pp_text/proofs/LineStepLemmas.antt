@@ -89,7 +89,7 @@ through_behind room line bytes a b row rest left f content contents after tail w
     record { split = rest_is; lead = subst (λ (o : Option Told). Through (suc line) contents o after) between_is u.lead }
 
 -- lines of which none goes through
-text_here : (line : ℕ) (bytes : List ℕ) (a between : Option Told) (tail : List ℕ) (end : Line) (last : ℕ) (told : Told) → GoThrough line bytes a [] between tail →
+pub text_here : (line : ℕ) (bytes : List ℕ) (a between : Option Told) (tail : List ℕ) (end : Line) (last : ℕ) (told : Told) → GoThrough line bytes a [] between tail →
     last ≡ line + 0 → BeginWithLine tail end → RowEnds last (row_of end) between told → (BeginWithLine bytes end) × (RowEnds line (row_of end) a told)
 text_here line bytes a between tail end last told w number begins ends =
     let last_is : last ≡ line = omega arith in
@@ -98,7 +98,7 @@ text_here line bytes a between tail end last told w number begins ends =
       subst (λ (o : Option Told). RowEnds line (row_of end) o told) w.lead here,
     )
 
-wrong_here : (line : ℕ) (bytes : List ℕ) (a between : Option Told) (tail : List ℕ) (here : Line) (wrong : ℕ) → GoThrough line bytes a [] between tail →
+pub wrong_here : (line : ℕ) (bytes : List ℕ) (a between : Option Told) (tail : List ℕ) (here : Line) (wrong : ℕ) → GoThrough line bytes a [] between tail →
     wrong ≡ line + 0 → BeginWithLine tail here → IsWrong wrong between here → (BeginWithLine bytes here) × (IsWrong line a here)
 wrong_here line bytes a between tail here wrong w number begins is =
     let wrong_is : wrong ≡ line = omega arith in
@@ -107,7 +107,7 @@ wrong_here line bytes a between tail here wrong w number begins is =
       subst (λ (o : Option Told). IsWrong line o here) w.lead there,
     )
 
-long_here : (room line : ℕ) (bytes : List ℕ) (a between : Option Told) (tail : List ℕ) → GoThrough line bytes a [] between tail →
+pub long_here : (room line : ℕ) (bytes : List ℕ) (a between : Option Told) (tail : List ℕ) → GoThrough line bytes a [] between tail →
     IsOneLine (take (room - length (lines_text [])) tail) → IsOneLine (take room bytes)
 long_here room line bytes a between tail w one =
     let all : room - length (lines_text []) ≡ room = omega arith in
@@ -431,7 +431,7 @@ empty_line row rest p =
     let size = line_size [] row rest p in
     omega arith
 
-empty_ends : (last : ℕ) (between : Option Told) (told : Told) (tail : List ℕ) (end : Line) → tail ≡ [] → BeginWithLine tail end → ¬ (RowEnds last (row_of end) between told)
+pub empty_ends : (last : ℕ) (between : Option Told) (told : Told) (tail : List ℕ) (end : Line) → tail ≡ [] → BeginWithLine tail end → ¬ (RowEnds last (row_of end) between told)
 empty_ends last between told tail (Whole row rest) none begins ends = empty_line row rest (subst (λ (l : List ℕ). BeginWithLine l (Whole row rest)) none begins)
 empty_ends last between told tail (Open row) none begins ends =
     let row_is : row ≡ [] = sym begins.1 ∙ none in

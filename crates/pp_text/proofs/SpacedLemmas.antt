@@ -42,7 +42,7 @@ token_begins (Bracketed inside) rest is = record {
 }
 
 -- bytes that begin with a token and end one, do not both
-no_token_end : (t : Token) (rest bytes : List ℕ) → IsTrue (is_token t) → bytes ≡ token_text t ++ rest → ends_token bytes ≡ false
+pub no_token_end : (t : Token) (rest bytes : List ℕ) → IsTrue (is_token t) → bytes ≡ token_text t ++ rest → ends_token bytes ≡ false
 no_token_end t rest bytes is e =
     let begin = token_begins t rest is in
     ap ends_token (e ∙ begin.split) ∙ begin.no_end
@@ -51,7 +51,7 @@ no_token_end t rest bytes is e =
 blank_ends : (b : ℕ) (rest : List ℕ) → is_blank b ≡ true → ends_token (b ∷ rest) ≡ true
 blank_ends b rest blank = or_left (is_blank b || b == 59) (b == 35) (or_left (is_blank b) (b == 59) blank)
 
-behind_ends : (after : List ℕ) (b : Behind) → IsBehind after b → IsTrue (ends_token after)
+pub behind_ends : (after : List ℕ) (b : Behind) → IsBehind after b → IsTrue (ends_token after)
 behind_ends after (GoesOn rest) is = ap ends_token is
 behind_ends [] Ends is = refl
 behind_ends (c ∷ after) Ends is = at_byte (λ (x : ℕ). ends_token (x ∷ [])) c 35 true is refl

@@ -22,12 +22,12 @@ three_and_rest (a ∷ b ∷ []) long = absurd (omega arith)
 three_and_rest (a ∷ b ∷ c ∷ text) long = refl
 
 -- `x` is no single escape
-no_escape_x : (where_it_stands : Place) → IsTrue (is_byte_in where_it_stands (Escape 120)) → ⊥
+pub no_escape_x : (where_it_stands : Place) → IsTrue (is_byte_in where_it_stands (Escape 120)) → ⊥
 no_escape_x place.Key is = both_ways false refl is
 no_escape_x place.Set is = both_ways false refl is
 
 -- no backslash stands for itself
-no_raw_backslash : (where_it_stands : Place) → IsTrue (is_byte_in where_it_stands (Raw 92)) → ⊥
+pub no_raw_backslash : (where_it_stands : Place) → IsTrue (is_byte_in where_it_stands (Raw 92)) → ⊥
 no_raw_backslash place.Key is = both_ways false refl is
 no_raw_backslash place.Set is = both_ways false refl is
 

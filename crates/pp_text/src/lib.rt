@@ -7,6 +7,7 @@ mod draft;
 mod edge;
 mod fault;
 mod key;
+mod laws;
 mod line;
 mod node;
 mod printing;
@@ -19,6 +20,7 @@ mod word;
 
 pub use back::read_back;
 pub use fault::TextFault;
+pub use laws::one_reading;
 pub use printing::print_graph;
 pub use reading::read_graph;
 pub use telling::told_again;

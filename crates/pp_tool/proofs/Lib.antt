@@ -3,6 +3,7 @@ pub mod CaptureLemmas
 pub mod CommandLemmas
 pub mod FaultLemmas
 pub mod FrontLemmas
+pub mod OneText
 pub mod OneVerdict
 pub mod OrderLemmas
 pub mod PieceLemmas

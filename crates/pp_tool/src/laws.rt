@@ -55,10 +55,12 @@ pub fn print_answers()
     ensures no_program { (command : Command) (answer : Status) → IsAnswerOf command answer → answer ≢ status.Program }
 {}
 
-/// Where a text has at most one reading, each command has at most one verdict.
+/// An input has at most one reading as a graph text, and each command has at most one verdict over it.
 pub fn one_verdict()
-    ensures trace { (bytes : List ℕ) → AtMostOne (ReadsText bytes) → AtMostOne (Traces bytes) }
-    ensures print { (bytes : List ℕ) → AtMostOne (ReadsTextAlone bytes) → AtMostOne (Prints bytes) }
+    ensures text { (bytes : List ℕ) → AtMostOne (ReadsText bytes) }
+    ensures text_alone { (bytes : List ℕ) → AtMostOne (ReadsTextAlone bytes) }
+    ensures trace { (bytes : List ℕ) → AtMostOne (Traces bytes) }
+    ensures print { (bytes : List ℕ) → AtMostOne (Prints bytes) }
 {}
 
 /// Where a text has at least one reading, and a run of a plain graph comes to something, each command has at least one
