@@ -10,9 +10,8 @@ ghost use Rattle.pp_tool.specs.declared.words.Command.{Command};
 ghost use Rattle.pp_tool.specs.declared.words.Command.TheVariants.{Print};
 ghost use Rattle.pp_tool.specs.Answers.{ComesWhere};
 ghost use Rattle.pp_tool.specs.Verdict.{Gives, Refuses, Concludes, AtMostOne, AtLeastOne};
-ghost use Rattle.pp_tool.specs.GraphText.{HasNoGraph, IsNoGraph, Begun, ReadsText, ReadsTextAlone};
-ghost use Rattle.pp_mean.specs.Plain.{IsPlain};
-ghost use Rattle.pp_tool.specs.Trace.{Traces, Reports, HasReport};
+ghost use Rattle.pp_tool.specs.GraphText.{HasNoGraph, IsNoGraph, ReadsText, ReadsTextAlone};
+ghost use Rattle.pp_tool.specs.Trace.{Traces, HasReport};
 ghost use Rattle.pp_tool.specs.Print.{Prints};
 ghost use Rattle.pp_tool.specs.Commands.{IsAnswerOf};
 ghost use Rattle.pp_tool.specs.Facts.{FailsCheck, HasLongRest, HasNoCapture, HasPrint};
@@ -63,9 +62,8 @@ pub fn one_verdict()
     ensures print { (bytes : List ℕ) → AtMostOne (Prints bytes) }
 {}
 
-/// Where a text has at least one reading, and a run of a plain graph comes to something, each command has at least one
-/// verdict: that it has none is absurd.
+/// Where a text has at least one reading, each command has at least one verdict: that it has none is absurd.
 pub fn some_verdict()
-    ensures trace { (bytes : List ℕ) → ((begun : Begun) → IsPlain begun.0 → AtLeastOne (Reports begun)) → AtLeastOne (ReadsText bytes) → AtLeastOne (Traces bytes) }
+    ensures trace { (bytes : List ℕ) → AtLeastOne (ReadsText bytes) → AtLeastOne (Traces bytes) }
     ensures print { (bytes : List ℕ) → AtLeastOne (ReadsTextAlone bytes) → AtLeastOne (Prints bytes) }
 {}
