@@ -9,6 +9,7 @@ use std::alloc::Global;
 use std::test::Fail;
 
 const CODE: ScriptTo = ScriptTo::Code(3);
+
 const SPAN: ScriptTo = ScriptTo::Span(0);
 
 // Two answers for a code, and between them two for a span.
@@ -78,7 +79,10 @@ fn a_recorded_host_logs_what_it_was_asked(rt: HostRuntime) -> Result<(), Fail> {
         return Err(Fail::from("no call"));
     };
     assert_eq!(rt; (*code, *value, *at, *answer), (3, 1, 2, 5));
-    assert_eq!(rt; (props.len(), props.is_empty(), props.get(0), props.get(1)), (2, false, 0, 9));
+    assert_eq!(rt;
+        (props.len(), props.is_empty(), props.get(0), props.get(1)),
+        (2, false, 0, 9)
+    );
     assert_eq!(rt; host.piece(0, b"ab", 4, true), Reply::Is(0));
     let Event::Piece {
         span,
@@ -133,13 +137,15 @@ fn pieces_are_joined_to_spans(rt: HostRuntime) -> Result<(), Fail> {
         props: Props::zeros(1),
         answer: 5,
     };
-    let Some(Item::Call {
-        code: 3,
-        value: 1,
-        at: 2,
-        props,
-        answer: 5,
-    }) = joiner.take(&call)?
+    let Some(
+        Item::Call {
+            code: 3,
+            value: 1,
+            at: 2,
+            props,
+            answer: 5,
+        },
+    ) = joiner.take(&call)?
     else {
         return Err(Fail::from("no call"));
     };
@@ -151,7 +157,10 @@ fn pieces_are_joined_to_spans(rt: HostRuntime) -> Result<(), Fail> {
 fn spans_are_open_where_they_were_set(rt: HostRuntime) {
     let mut spans = Spans::shut(3);
     spans.set(1, Some(7));
-    assert_eq!(rt; (spans.len(), spans.get(0), spans.get(1)), (3, None, Some(7)));
+    assert_eq!(rt;
+        (spans.len(), spans.get(0), spans.get(1)),
+        (3, None, Some(7))
+    );
     spans.set(1, None);
     assert_eq!(rt; spans.get(1), None);
 }
