@@ -9,7 +9,9 @@ mod names;
 mod nodes;
 mod tokens;
 
-use crate::printing::declarations::{print_entry, print_finish, print_hosts, print_props, print_spans};
+use crate::printing::declarations::{
+    print_entry, print_finish, print_hosts, print_props, print_spans,
+};
 use crate::printing::nodes::print_nodes;
 use pp_graph::{Graph, NoMemory};
 use std::alloc::Global;
