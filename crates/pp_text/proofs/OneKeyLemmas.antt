@@ -1,7 +1,7 @@
 -- Keys and sets have one reading: no writing of a byte goes on to be another one.
-use Rattle.std.proofs.Common.{◌≡◌, ◌≢◌, ℕ, ◌<◌, false, true, List, [], ◌∷◌, ◌++◌, ◌==◌, length, map, flat_map, append_assoc, refl, sym, ap, ap₂, subst, ◌∙◌, arith, IsTrue}
+use Rattle.std.proofs.Common.{◌≡◌, ◌≢◌, ℕ, ◌<◌, true, List, [], ◌∷◌, ◌++◌, ◌==◌, length, map, flat_map, append_assoc, refl, sym, ap, ap₂, subst, ◌∙◌, arith, IsTrue}
 use Rattle.std.proofs.lemmas.Bool.{and_parts, both_ways, not-true, false≢true}
-use Rattle.std.proofs.lemmas.List.{append-nil, length-append}
+use Rattle.std.proofs.lemmas.List.{length-append}
 use Rattle.std.specs.List.{list_all}
 use Rattle.pp_text.specs.declared.key.Place.{Place}
 use Rattle.pp_text.specs.declared.key.Place.TheVariants as place

@@ -1,15 +1,14 @@
 -- What bytes are as a text, they are alone.
-use Rattle.std.proofs.Common.{◌≡◌, ℕ, ◌⊎◌, inl, inr, List}
-use Rattle.std.specs.Prelude.{Err, None}
+use Rattle.std.proofs.Common.{◌≡◌, ℕ, inl, inr, List}
+use Rattle.std.specs.Prelude.{Err}
 use Rattle.pp_rules.specs.declared.rules.GraphRule.{GraphRule}
 use Rattle.pp_rules.specs.Rules.{KeepsRules}
-use Rattle.pp_text.specs.declared.fault.TextFault.{TextFault}
 use Rattle.pp_text.specs.declared.fault.TextFault.TheVariants as fault
-use Rattle.pp_text.specs.Text.{Told, BeginWithText, limit, IsWrongAt, IsTooLong}
+use Rattle.pp_text.specs.Text.{Told, BeginWithText, IsWrongAt, IsTooLong}
 use Rattle.pp_text.specs.Outcome.{Breaks}
-use Rattle.pp_text.specs.steps.Rows.{IsOnly, Ended, WrongAt, Endless, Long, LinesAre}
+use Rattle.pp_text.specs.steps.Rows.{Ended, WrongAt, Endless, Long}
 use Rattle.pp_text.specs.steps.Settled.{Settles}
-use Rattle.pp_text.proofs.ReadingLemmas.{settles_graph_only, settles_too_long_only, settles_syntax_only, settles_rule_only}
+use Rattle.pp_text.proofs.ReadingLemmas.{settles_graph_only, settles_syntax_only, settles_rule_only}
 use Rattle.pp_text.proofs.OneTextLemmas.{bytes_only}
 
 -- a text begins them

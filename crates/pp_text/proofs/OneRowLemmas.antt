@@ -6,7 +6,7 @@ use Rattle.pp_text.specs.Tokens.{Token, Word, Quoted, Bracketed, is_token, token
 use Rattle.pp_text.specs.steps.Reading.{ends_token}
 use Rattle.pp_text.specs.steps.Lexing.{begins_with, IsBehindBlanks}
 use Rattle.pp_text.proofs.TokenLemmas.{same_inside, word_length_is, cut_at}
-use Rattle.pp_text.proofs.SpacedLemmas.{BeginsToken, row_token, row_empty, row_off_blanks, no_token_end, behind_ends}
+use Rattle.pp_text.proofs.SpacedLemmas.{row_token, row_empty, row_off_blanks, no_token_end, behind_ends}
 
 -- a word ends where its bytes end
 words_same : (a b after rest : List ℕ) → IsTrue (is_word a) → IsTrue (is_word b) → IsTrue (ends_token after) → IsTrue (ends_token rest) →

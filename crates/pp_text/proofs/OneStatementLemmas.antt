@@ -1,13 +1,13 @@
 -- The tokens of a statement tell the statement, and what it leads to.
-use Rattle.std.proofs.Common.{◌≡◌, ℕ, ◌<◌, ◌^◌, false, true, List, [], ◌∷◌, ◌++◌, map, codes, decimal, append_assoc, refl, sym, ap, ap₂, subst, ◌∙◌, arith}
+use Rattle.std.proofs.Common.{◌≡◌, ℕ, List, [], ◌∷◌, ◌++◌, map, codes, decimal, append_assoc, refl, sym, ap, ap₂, subst, ◌∙◌, arith}
 use Rattle.std.specs.Prelude.{Option, Some}
 use Rattle.std.specs.Prelude.{None as none}
 use Rattle.std.proofs.lemmas.Fmt.{decimal_injective}
 use Rattle.pp_rules.specs.declared.call.BuilderCall.{BuilderCall}
-use Rattle.pp_text.specs.Tokens.{Token, Word}
+use Rattle.pp_text.specs.Tokens.{Token}
 use Rattle.pp_text.specs.Keys.{GiveKeys}
-use Rattle.pp_text.specs.Statements.{Statement, Says, Keys, Peeks, IsStatement, AreKeys, ArePeeks, AreCall, NumberFits, carried_tokens, arrow_tokens, number_word, statement_calls}
-use Rattle.pp_text.specs.Text.{Told, nothing, tell, first_tokens, end_tokens, Leads}
+use Rattle.pp_text.specs.Statements.{Statement, Says, Keys, Peeks, IsStatement, AreKeys, ArePeeks, AreCall, NumberFits, carried_tokens, arrow_tokens, statement_calls}
+use Rattle.pp_text.specs.Text.{Told, tell, end_tokens, Leads}
 use Rattle.pp_text.specs.steps.Rows.{RowOutcome, LeadsTo, EndsWith, LastIs}
 use Rattle.pp_text.proofs.FirstWordLemmas.{apart, first-word, IsNoCall, no-call}
 use Rattle.pp_text.proofs.KeyTokenLemmas.{keys-unique, carried-word, no-call-on, no-call-peek}

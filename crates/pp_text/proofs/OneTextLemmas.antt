@@ -1,13 +1,13 @@
 -- Lines come to one thing, so bytes have at most one reading as a text.
-use Rattle.std.proofs.Common.{◌≡◌, ◌≢◌, ℕ, zero, suc, ◌+◌, ◌-◌, ◌≤◌, ◌<◌, ◌⊎◌, inl, inr, List, [], ◌∷◌, ◌++◌, length, take, refl, sym, ap, ap₂, subst, ◌∙◌, arith}
+use Rattle.std.proofs.Common.{◌≡◌, ◌≢◌, ℕ, zero, suc, ◌+◌, ◌-◌, ◌≤◌, ◌<◌, List, [], ◌∷◌, ◌++◌, length, take, sym, ap, ap₂, subst, ◌∙◌, arith}
 use Rattle.std.proofs.lemmas.List.{length-append}
 use Rattle.std.specs.Prelude.{Option, Some, None}
 use Rattle.pp_text.specs.Tokens.{Token, Behind, GoesOn, Ends, BeginsRow, IsRow}
-use Rattle.pp_text.specs.Text.{Told, Line, Whole, Open, IsOneLine, BeginWithLine, GoThrough, Leads, LeadOn, RowLeads, RowEnds, IsWrong, lines_text, row_of, rest_of, end_tokens, TextFrom, WrongFrom, EndlessFrom, LongFrom, limit}
-use Rattle.pp_text.specs.steps.Rows.{SameEnds, IsOnly, RowOutcome, LeadsTo, EndsWith, RowIs, LastIs, Verdict, Ended, WrongAt, Endless, Long, LinesAre}
+use Rattle.pp_text.specs.Text.{Told, Line, IsOneLine, BeginWithLine, GoThrough, Leads, LeadOn, RowEnds, IsWrong, lines_text, row_of, rest_of, end_tokens, TextFrom, WrongFrom, EndlessFrom, LongFrom, limit}
+use Rattle.pp_text.specs.steps.Rows.{IsOnly, RowOutcome, LeadsTo, EndsWith, RowIs, Verdict, Ended, WrongAt, Endless, Long, LinesAre}
 use Rattle.pp_text.proofs.RowStepLemmas.{BeginsAlone, row_next, row_last}
 use Rattle.pp_text.proofs.LineCutLemmas.{uncons, line_size, rest_short}
-use Rattle.pp_text.proofs.LineStepLemmas.{FirstLeads, lines_step, text_here, wrong_here, long_here, empty_ends, ended_only, wrong_only, long_only, empty_only, only_same}
+use Rattle.pp_text.proofs.LineStepLemmas.{lines_step, text_here, wrong_here, long_here, empty_ends, ended_only, wrong_only, long_only, empty_only, only_same}
 use Rattle.pp_text.proofs.OneRowLemmas.{begins_any}
 use Rattle.pp_text.proofs.OneStatementLemmas.{leads_alone_here, last_same}
 

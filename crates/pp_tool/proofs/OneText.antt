@@ -6,10 +6,9 @@ use Rattle.pp_text.specs.Text.{Told}
 use Rattle.pp_text.proofs.OneReadingLemmas.{text_same, wrong_line_same, text_not_wrong, text_not_long, wrong_not_long, fault_same, fault_not_graph}
 use Rattle.pp_tool.specs.declared.refusal.GraphReason.{GraphReason}
 use Rattle.pp_tool.specs.declared.refusal.GraphReason.TheVariants as graph
-use Rattle.pp_tool.specs.declared.refusal.Refusal.{Refusal}
 use Rattle.pp_tool.specs.declared.refusal.Refusal.TheVariants as refusal
-use Rattle.pp_tool.specs.Verdict.{Outcome, Gives, Refuses, AtMostOne}
-use Rattle.pp_tool.specs.GraphText.{BeginsWithGraph, HasNoGraph, HasMore, IsNoGraph, Begun, ReadsText, ReadsTextAlone}
+use Rattle.pp_tool.specs.Verdict.{Gives, Refuses, AtMostOne}
+use Rattle.pp_tool.specs.GraphText.{BeginsWithGraph, HasNoGraph, IsNoGraph, ReadsText, ReadsTextAlone}
 
 -- the reason that no graph begins the bytes is one
 reason_same : (bytes : List ℕ) (r s : GraphReason) → HasNoGraph bytes r → HasNoGraph bytes s → r ≡ s
@@ -37,18 +36,14 @@ graph_same bytes g h last end rest more p q =
     let same = text_same bytes p.told q.told last end rest more p.text q.text in
     (p.is ∙ ap (λ (t : Told). built t.calls) same.0 ∙ sym q.is, same.1, same.2)
 
--- a refusal for one reason
-refused_same : {A : Type 0} (why other : Refusal) (before after : List ℕ) (r s : GraphReason) → r ≡ s → why ≡ refusal.Graph r → before ≡ [] → other ≡ refusal.Graph s → after ≡ [] →
-    Refuses {A = A} why before ≡ Refuses other after
-refused_same why other before after r s same p q x y = ap₂ Refuses (p ∙ ap refusal.Graph same ∙ sym x) (q ∙ sym y)
-
+-- so each stage gives one outcome
 pub text_one : (bytes : List ℕ) → AtMostOne (ReadsText bytes)
 text_one bytes (Gives begun) (Gives other) h k =
     let same = graph_same bytes begun.0 other.0 h.0 k.0 begun.1 other.1 h.1 k.1 in
     ap₂ (λ (g : Plan) (rest : List ℕ). Gives (g, rest)) same.0 same.2
 text_one bytes (Gives begun) (Refuses why before) h k = absurd (graph_or_reason bytes begun.0 h.0 begun.1 k.0 h.1 k.1)
 text_one bytes (Refuses why before) (Gives begun) h k = absurd (graph_or_reason bytes begun.0 k.0 begun.1 h.0 k.1 h.1)
-text_one bytes (Refuses why before) (Refuses other after) h k = refused_same why other before after h.0 k.0 (reason_same bytes h.0 k.0 h.1 k.1) h.2 h.3 k.2 k.3
+text_one bytes (Refuses why before) (Refuses other after) h k = ap₂ Refuses (h.2 ∙ ap refusal.Graph (reason_same bytes h.0 k.0 h.1 k.1) ∙ sym k.2) (h.3 ∙ sym k.3)
 
 -- the reason that the bytes are not the text of a graph alone is one
 alone_reason_same : (bytes : List ℕ) (r s : GraphReason) → IsNoGraph bytes r → IsNoGraph bytes s → r ≡ s
@@ -69,4 +64,4 @@ pub alone_one : (bytes : List ℕ) → AtMostOne (ReadsTextAlone bytes)
 alone_one bytes (Gives g) (Gives other) h k = ap Gives (graph_same bytes g other h.0 k.0 [] [] h.1 k.1).0
 alone_one bytes (Gives g) (Refuses why before) h k = absurd (alone_not_refused bytes g h.0 k.0 h.1 k.1)
 alone_one bytes (Refuses why before) (Gives g) h k = absurd (alone_not_refused bytes g k.0 h.0 k.1 h.1)
-alone_one bytes (Refuses why before) (Refuses other after) h k = refused_same why other before after h.0 k.0 (alone_reason_same bytes h.0 k.0 h.1 k.1) h.2 h.3 k.2 k.3
+alone_one bytes (Refuses why before) (Refuses other after) h k = ap₂ Refuses (h.2 ∙ ap refusal.Graph (alone_reason_same bytes h.0 k.0 h.1 k.1) ∙ sym k.2) (h.3 ∙ sym k.3)

@@ -1,8 +1,4 @@
 use Rattle.pp_text.proofs.OneReadingLemmas.{text_same, wrong_line_same, text_not_wrong, text_not_long, wrong_not_long, fault_same, fault_not_graph}
-use Rattle.pp_text.proofs.OneCallLemmas.{call_same}
-use Rattle.pp_text.proofs.OneRowLemmas.{begins_any}
-use Rattle.pp_text.proofs.OneKeyLemmas.{keys_same}
-use Rattle.pp_text.proofs.OneStatementLemmas.{statement_same}
 use Rattle.pp_text.proofs.laws.one_reading.Goals as goal
 
 pub returns-clause-text : goal.returns-clause-text
