@@ -8,3 +8,4 @@ pub mod Rows
 pub mod PlaceLemmas
 pub mod ComeLemmas
 pub mod OneReading
+mod PartLemmas

@@ -1,12 +1,12 @@
 // The fields of a head.
-ghost use Rattle.std.specs.Prelude.{◌≡◌, ℕ, ◌+◌, ◌<◌, ◌^◌, ◌==◌, ◌⊎◌, List, length, IfOk, IsErrOf, MatchBool, MatchResult};
+ghost use Rattle.std.specs.Prelude.{◌≡◌, All, ℕ, ◌+◌, ◌<◌, ◌^◌, ◌==◌, ◌⊎◌, List, length, IfOk, IsErrOf, MatchBool, MatchResult};
 ghost use Rattle.std.specs.List.{position};
 ghost use Rattle.std.specs.Option.{SomeIff};
 ghost use Rattle.pp_frame.specs.steps.Heads.{IsFaultOf, IsFaultOfLine};
 ghost use Rattle.pp_frame.specs.declared.parts.Field.{Field};
 ghost use Rattle.pp_frame.specs.Bytes.{colon};
 ghost use Rattle.pp_frame.specs.Lines.{HasEmptyLine};
-ghost use Rattle.pp_frame.specs.Fields.{HasColon, HasFields, LacksColonAt, field_at};
+ghost use Rattle.pp_frame.specs.Fields.{HasColon, HasFields, IsFieldOf, LacksColonAt, field_at};
 
 use crate::blanks::trimmed;
 use crate::lines::line_len;
@@ -23,6 +23,7 @@ use std::alloc::Global;
 pub fn fields_of(alloc: Global, head: &[u8]) -> Result<Vec<Field>, HeadFault>
     requires { length head.now < 2 ^ 32 }
     ensures ok { IfOk result (λ fields. HasFields head.now fields.items) }
+    ensures parts { IfOk result (λ fields. All (IsFieldOf head.now) fields.items) }
     ensures ok_only { (fields : List Field) → HasFields head.now fields → MatchResult result (λ found. found.items ≡ fields) (λ e. e ≡ HeadFault.NoMemory) }
     ensures no_end { IsErrOf result HeadFault.NoEnd → ¬ (HasEmptyLine head.now) }
     ensures no_end_only { ¬ (HasEmptyLine head.now) → MatchResult result (λ _. ⊥) (λ e. (e ≡ HeadFault.NoEnd) ⊎ (e ≡ HeadFault.NoMemory)) }

@@ -99,16 +99,6 @@ fn a_recorded_host_logs_what_it_was_asked(rt: HostRuntime) -> Result<(), Fail> {
     Ok(())
 }
 
-fn piece(at: u64, part: &[u8], last: bool) -> Event<'_> {
-    Event::Piece {
-        span: 1,
-        at,
-        part,
-        last,
-        answer: 0,
-    }
-}
-
 // A span of two pieces, one without bytes, and the open span behind it.
 const PIECES: [(u64, &str, bool, Option<(u64, u64)>, &str); 4] = [
     (2, "ab", false, None, "ab"),
@@ -121,7 +111,16 @@ const PIECES: [(u64, &str, bool, Option<(u64, u64)>, &str); 4] = [
 fn pieces_are_joined_to_spans(rt: HostRuntime) -> Result<(), Fail> {
     let mut joiner = Joiner::new(rt.alloc());
     for (at, part, last, span, bytes) in PIECES {
-        let item = joiner.take(&piece(at, part.as_bytes(), last))?;
+        let part = part.as_bytes();
+        assert!(rt; at < 100 && part.len() < 100, "at {at}");
+        let event = Event::Piece {
+            span: 1,
+            at,
+            part,
+            last,
+            answer: 0,
+        };
+        let item = joiner.take(&event)?;
         let found = match item {
             Some(Item::Span { span: 1, from, to }) => Some((from, to)),
             _ => None,
