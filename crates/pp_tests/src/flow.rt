@@ -57,7 +57,10 @@ fn three(
     ensures { IfOk result (λ made. IfSome made IsWhole) }
 {
     let acts = Vec::from_array(alloc, acts)?;
-    if acts.len() != 3 || !have_spans(&acts) || to[0] >= 3 || to[1] >= 3 || to[2] >= 3 {
+    if to[0] >= 3 || to[1] >= 3 || to[2] >= 3 {
+        return Ok(None);
+    }
+    if acts.len() != 3 || !have_spans(&acts) {
         return Ok(None);
     }
     let mut flow = Flow::new(alloc, acts, 0)?;
