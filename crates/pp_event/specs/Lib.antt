@@ -3,6 +3,7 @@ pub mod Run
 pub mod Answers
 pub mod Steady
 pub mod Turns
+pub mod Codes
 pub mod Loops
 pub mod Simulates
 pub mod Runs

@@ -1,7 +1,7 @@
 -- The meaning of a graph on a whole string.
-use Rattle.std.specs.Prelude.{ℕ, List, None, length, replicate}
+use Rattle.std.specs.Prelude.{ℕ, List, [], ◌∷◌, None, All, length, replicate, slice_set}
 use Rattle.pp_event.specs.Run.{Config, Oracle, RunResult, RunEnds}
-use Rattle.pp_graph.specs.Plan.{Plan}
+use Rattle.pp_graph.specs.Plan.{Plan, Holds}
 use Rattle.pp_mean.specs.Nodes.{graph_turn}
 
 -- the entry at place 0, with these values of the properties, and no span open
@@ -12,3 +12,16 @@ entry_with g values = record { node = g.entry; at = 0; carried = 0; values = val
 -- number of moves it has ended so
 abbrev pub Means : Plan → List ℕ → List ℕ → Oracle → ℕ → RunResult → Type 0
 Means g values bytes oracle resumes r = RunEnds (graph_turn g) oracle (entry_with g values) bytes resumes r
+
+-- values with these set in turn, each by the place of its property: the last of one property stays
+abbrev pub with_sets : List (ℕ × ℕ) → List ℕ → List ℕ
+with_sets [] values = values
+with_sets (set ∷ sets) values = with_sets sets (slice_set values set.0 set.1)
+
+-- the values that a run begins with: 0 for each property, and then these sets
+abbrev pub values_by : Plan → List (ℕ × ℕ) → List ℕ
+values_by g sets = with_sets sets (replicate (length g.props) 0)
+
+-- each set names a property of the graph, by its place, and its value fits the property
+abbrev pub SetsFit : Plan → List (ℕ × ℕ) → Type 0
+SetsFit g sets = All (λ (set : ℕ × ℕ). Holds g set.0 set.1) sets

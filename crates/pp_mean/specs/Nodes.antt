@@ -1,10 +1,7 @@
 -- What a node of a graph does at a configuration, with these bytes left. A match node reads whole keys.
-use Rattle.std.specs.Prelude.{ℕ, zero, suc, ◌+◌, ◌*◌, List, [], ◌∷◌, Option, Some, None, Bool, true, false, ◌&&◌, ◌||◌, not, length, map, max, slice_get, slice_index, nat_lt, ◌==◌, if◌then◌else◌, unwrap_or, bit_and, bit_or, find}
+use Rattle.std.specs.Prelude.{ℕ, zero, suc, ◌+◌, List, [], ◌∷◌, Option, Some, None, Bool, true, false, ◌&&◌, ◌||◌, not, length, map, max, slice_get, nat_lt, ◌==◌, if◌then◌else◌, unwrap_or, find}
 use Rattle.std.specs.List.{list_any}
 use Rattle.pp_bytes.specs.Fold.{folded}
-use Rattle.pp_graph.specs.declared.node.Answer.{Answer}
-use Rattle.pp_graph.specs.declared.node.Code.{Code}
-use Rattle.pp_graph.specs.declared.node.Code.TheVariants as code
 use Rattle.pp_graph.specs.declared.node.Key.{Key}
 use Rattle.pp_graph.specs.declared.node.Peek.{Peek}
 use Rattle.pp_graph.specs.declared.node.Other.{Other}
@@ -13,7 +10,8 @@ use Rattle.pp_graph.specs.declared.node.Kind.TheVariants.{Match, Invoke, Consume
 use Rattle.pp_graph.specs.declared.node.Node.{Node}
 use Rattle.pp_graph.specs.Plan.{Plan}
 use Rattle.pp_event.specs.Run.{Config, Turn, Rests, Stops, Fails, Machine}
-use Rattle.pp_event.specs.Turns.{to, Effect, AsksHost, Answers, Sets, effect_turn, consume_turn, open_turn, close_turn}
+use Rattle.pp_event.specs.Turns.{to, effect_turn, consume_turn, open_turn, close_turn}
+use Rattle.pp_event.specs.Codes.{answered, effect_of}
 
 -- the length of the longest common prefix
 abbrev pub common : List ℕ → List ℕ → ℕ
@@ -84,29 +82,6 @@ rests_at c rest = record c { at = c.at + length rest; carried = 0 }
 abbrev pub match_turn : Config → List ℕ → List Key → List Peek → Other → List ℕ → Turn
 match_turn c rest keys peeks other bytes =
     if waits keys peeks other bytes then Rests (rests_at c rest) else key_turn c keys peeks other bytes (best keys bytes)
-
--- the edge with the answer's number, else the otherwise
-abbrev pub target_or : ℕ → Option Answer → ℕ
-target_or other None = other
-target_or other (Some a) = a.target
-
--- where an answer leads
-abbrev pub answered : List Answer → ℕ → ℕ → ℕ
-answered answers other n = target_or other (find (λ (a : Answer). a.number == n) answers)
-
--- what a code does, by the values of the properties and the number that was carried
-abbrev pub effect_of : List ℕ → ℕ → Code → Effect
-effect_of values carried (code.Call host) = AsksHost host
-effect_of values carried (code.Store prop) = Sets prop carried
-effect_of values carried (code.Load prop) = Answers (slice_index values prop)
-effect_of values carried (code.Update prop value) = Sets prop value
-effect_of values carried (code.Equal prop value) = Answers (if slice_index values prop == value then 1 else 0)
-effect_of values carried (code.And prop value) = Sets prop (bit_and (slice_index values prop) value)
-effect_of values carried (code.Or prop value) = Sets prop (bit_or (slice_index values prop) value)
-effect_of values carried (code.Test prop value) = Answers (if bit_and (slice_index values prop) value == value then 1 else 0)
-effect_of values carried (code.MulAdd prop base most) =
-    let product = slice_index values prop * base + carried in
-    if nat_lt most product then Answers 1 else Sets prop product
 
 -- what a node of a kind does
 abbrev pub kind_turn : Kind → Config → List ℕ → Turn

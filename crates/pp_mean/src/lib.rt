@@ -3,10 +3,9 @@
 
 mod laws;
 mod plain;
-mod step;
 mod whole;
 
-pub use laws::{at_most_one_run, ends_or_loops, more_moves, run_or_loop};
+pub use laws::{at_most_one_run, longer_strings, more_moves, one_run, run_or_loop};
 pub use plain::is_plain;
 pub use pp_event::{Item, Props};
-pub use whole::{End, MeanFault, WholeRun, run_whole};
+pub use whole::{End, MeanFault, WholeRun};
