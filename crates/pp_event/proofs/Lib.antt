@@ -3,7 +3,9 @@ pub mod RunLaws
 pub mod JoinLaws
 pub mod QuietLaws
 pub mod TurnLaws
+pub mod OnceLemmas
 pub mod LoopLaws
+pub mod ReturnLaws
 pub mod AskedLaws
 pub mod CameLaws
 pub mod AgreeLaws

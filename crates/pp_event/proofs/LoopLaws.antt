@@ -1,4 +1,4 @@
--- A rank table shows that there is no loop, and which gap there is.
+-- A rank table shows that there is no loop, and which gap there is. Without a loop a run comes to no node twice at one place.
 use Rattle.std.proofs.Common.{subst, ◌≡◌, ℕ, zero, suc, ◌+◌, ◌≤◌, ◌<◌, List, [], ◌∷◌, ◌++◌, refl, sym, ◌∙◌, ap, arith, length, drop, inl, inr, ◌⊎◌}
 use Rattle.std.proofs.Common.{get_or}
 use Rattle.std.proofs.lemmas.List.{get_or-drop, length-drop}
@@ -10,6 +10,7 @@ use Rattle.pp_event.specs.Chain.{Move, On, Over, Ends, stages, then_list}
 use Rattle.pp_event.specs.Run.{Config, Turn, Goes, Asks, Rests, Stops, Fails, Oracle, Stage, RunResult, move, move_by, pass}
 use Rattle.pp_event.specs.Steady.{Keeps, IsSteady, Placed, IsPlaced}
 use Rattle.pp_event.proofs.ChainLaws.{Gives, ends_by}
+use Rattle.pp_event.proofs.OnceLemmas.{Contains_head, Contains_nothing}
 use Rattle.pp_event.specs.Loops.{Moves, FreeMove, Reaches, at_entry, by_free, by_taking, FreeWay, stay, onward, LoopFree, IsGap, IsRankTable, LeadsTo, AreBytes, Reached, stand, NoneTwice}
 
 module _ (m : Moves) (rank : ℕ → ℕ → ℕ) (table : IsRankTable m rank) where
@@ -54,19 +55,22 @@ pub reached_any : (m : Moves) (node : ℕ) (rest : List ℕ) → AreBytes rest �
 reached_any m node [] h r = r
 reached_any m node (b ∷ bytes) h r = r b (h 0)
 
-module _ (m : Moves) (rank : ℕ → ℕ → ℕ) (table : IsRankTable m rank) (steady : IsSteady m.turn) (oracle : Oracle) (bounded : (items : List Item) (code : ℕ) → oracle items code < 2 ^ 32) where
-  -- a turn that takes no byte
+-- with the byte that comes first, or at the end with any
+pub reached_first : (m : Moves) (node : ℕ) (rest : List ℕ) → Reached m node rest → Reaches m (get_or rest 0 0) node
+reached_first m node [] r = r 0 (omega arith)
+reached_first m node (b ∷ bytes) r = r
+
+module _ (m : Moves) (steady : IsSteady m.turn) where
+  -- a turn that takes no byte is a free move, and what it leads to can be come to
   pub free_on : (c : Config) (rest : List ℕ) (next : ℕ) → Reached m c.node rest → LeadsTo (m.turn c rest) 0 next →
-      Reached m next rest × (rank (get_or rest 0 0) next < rank (get_or rest 0 0) c.node)
+      Reached m next rest × FreeMove m (get_or rest 0 0) c.node next
   free_on c [] next r l =
       let leads : (b : ℕ) → LeadsTo (m.turn c (b ∷ [])) 0 next =
-      λ b. keeps_leads 0 0 next (m.turn c []) (m.turn c (b ∷ [])) (steady c [] (b ∷ [])) l in (
-        (λ b h. by_free (r b h) (inl (c, [], refl, leads b))),
-        table.falls 0 c.node next (r 0 (omega arith)) (inl (c, [], refl, leads 0)),
-      )
-  free_on c (b ∷ bytes) next r l =
-      (by_free r (inl (c, bytes, refl, l)), table.falls b c.node next r (inl (c, bytes, refl, l)))
+      λ b. keeps_leads 0 0 next (m.turn c []) (m.turn c (b ∷ [])) (steady c [] (b ∷ [])) l in
+      ((λ b h. by_free (r b h) (inl (c, [], refl, leads b))), inl (c, [], refl, leads 0))
+  free_on c (b ∷ bytes) next r l = (by_free r (inl (c, bytes, refl, l)), inl (c, bytes, refl, l))
 
+  -- so can what a turn that takes bytes leads to
   pub taking_on : (c : Config) (rest : List ℕ) (next k : ℕ) → AreBytes rest → Reached m c.node rest → LeadsTo (m.turn c rest) (suc k) next → suc k ≤ length rest →
       (length (drop (suc k) rest) < length rest) × Reached m next (drop (suc k) rest)
   taking_on c [] next k h r l n = absurd (omega arith)
@@ -75,6 +79,13 @@ module _ (m : Moves) (rank : ℕ → ℕ → ℕ) (table : IsRankTable m rank) (
         omega arith,
         reached_any m next (drop k bytes) (AreBytes-drop (suc k) (b ∷ bytes) h) (λ a p. by_taking p r (k, (c, bytes, refl, l))),
       )
+
+module _ (m : Moves) (rank : ℕ → ℕ → ℕ) (table : IsRankTable m rank) (steady : IsSteady m.turn) (oracle : Oracle) (bounded : (items : List Item) (code : ℕ) → oracle items code < 2 ^ 32) where
+  falls_on : (c : Config) (rest : List ℕ) (next : ℕ) → Reached m c.node rest → LeadsTo (m.turn c rest) 0 next →
+      Reached m next rest × (rank (get_or rest 0 0) next < rank (get_or rest 0 0) c.node)
+  falls_on c rest next r l =
+      let f = free_on m steady c rest next r l in
+      (f.0, table.falls (get_or rest 0 0) c.node next (reached_first m c.node rest r) f.1)
 
   -- a stage from which the run ends, in fewer bytes or at a lower rank
   abbrev pub Falls : Stage → Stage → Type 0
@@ -93,21 +104,21 @@ module _ (m : Moves) (rank : ℕ → ℕ → ℕ) (table : IsRankTable m rank) (
   goes_on : (s : Stage) (d : Config) (k : ℕ) (items : List Item) → AreBytes s.rest → Reached m s.config.node s.rest → m.turn s.config s.rest ≡ Goes d k items → k ≤ length s.rest →
       Progress s (move_by oracle s (Goes d k items))
   goes_on s d zero items h r e n =
-      let f = free_on s.config s.rest d.node r (subst (λ (t : Turn). LeadsTo t 0 d.node) (sym e) (refl, refl)) in
+      let f = falls_on s.config s.rest d.node r (subst (λ (t : Turn). LeadsTo t 0 d.node) (sym e) (refl, refl)) in
       (h, f.0, inr (refl, f.1))
   goes_on s d (suc k) items h r e n =
-      let f = taking_on s.config s.rest d.node k h r (subst (λ (t : Turn). LeadsTo t (suc k) d.node) (sym e) (refl, refl)) n in
+      let f = taking_on m steady s.config s.rest d.node k h r (subst (λ (t : Turn). LeadsTo t (suc k) d.node) (sym e) (refl, refl)) n in
       (AreBytes-drop (suc k) s.rest h, f.1, inl f.0)
 
   progress_by : (s : Stage) (t : Turn) → AreBytes s.rest → Reached m s.config.node s.rest → m.turn s.config s.rest ≡ t → Keeps (length s.rest) t (m.turn s.config (s.rest ++ [])) →
       Progress s (move_by oracle s t)
   progress_by s (Goes d k items) h r e p = goes_on s d k items h r e p.0
   progress_by s (Asks code value next) h r e p =
-      let f = free_on s.config s.rest (next (oracle s.items code)).node r (subst (λ (t : Turn). LeadsTo t 0 (next (oracle s.items code)).node) (sym e) (refl, oracle s.items code, bounded s.items code, refl)) in
+      let f = falls_on s.config s.rest (next (oracle s.items code)).node r (subst (λ (t : Turn). LeadsTo t 0 (next (oracle s.items code)).node) (sym e) (refl, oracle s.items code, bounded s.items code, refl)) in
       (h, f.0, inr (refl, f.1))
   progress_by s (Rests d) h r e p = tt
   progress_by s (Stops code d) h r e p =
-      pass_on s code d s.resumes h (free_on s.config s.rest d.node r (subst (λ (t : Turn). LeadsTo t 0 d.node) (sym e) (refl, refl)))
+      pass_on s code d s.resumes h (falls_on s.config s.rest d.node r (subst (λ (t : Turn). LeadsTo t 0 d.node) (sym e) (refl, refl)))
   progress_by s (Fails code) h r e p = tt
 
   pub progress : (s : Stage) → AreBytes s.rest → Reached m s.config.node s.rest → Progress s (move m.turn oracle s)
@@ -148,24 +159,19 @@ module _ (m : Moves) (rank : ℕ → ℕ → ℕ) (table : IsRankTable m rank) (
       ends_within (suc (length bytes)) (record { config = c; rest = bytes; items = []; resumes = resumes }) (omega arith) h
       (subst (λ (n : ℕ). Reached m n bytes) (sym e) (reached_any m m.entry bytes h (λ b p. at_entry p)))
 
-Contains_head : {X : Type 0} (x : X) (xs : List X) (y : X) → Contains (x ∷ xs) y → (x ≡ y) ⊎ Contains xs y
-Contains_head x xs y c = at c.0 c.1 c.2
-  where
-    at : (k : ℕ) → k < length (x ∷ xs) → get_or (x ∷ xs) k y ≡ y → (x ≡ y) ⊎ Contains xs y
-    at zero h e = inl e
-    at (suc k) h e = inr (k, omega arith, e)
+-- ways in a row
+pub way_more : {m : Moves} {b node mid end i j : ℕ} → FreeWay m b node i mid → FreeWay m b mid j end → FreeWay m b node (i + j) end
+way_more {m} {b} {node} {mid} {end} {j = j} stay w = (let e : j ≡ zero + j = omega arith in subst (λ (n : ℕ). FreeWay m b node n end) e w)
+way_more {m} {b} {node} {mid} {end} {j = j} (onward {n = n} f v) w =
+    let e : suc (n + j) ≡ suc n + j = omega arith in
+    subst (λ (k : ℕ). FreeWay m b node k end) e (onward f (way_more v w))
 
-Contains_nothing : {X : Type 0} (y : X) → Contains [] y → ⊥
-Contains_nothing y c = at c.0 c.1
-  where
-    at : (k : ℕ) → k < 0 → ⊥
-    at k h = absurd (omega arith)
-
-module _ (m : Moves) (rank : ℕ → ℕ → ℕ) (table : IsRankTable m rank) (steady : IsSteady m.turn) (oracle : Oracle) (bounded : (items : List Item) (code : ℕ) → oracle items code < 2 ^ 32) (placed : IsPlaced m.turn) where
-  -- a later stage: at a later place, or at the same with a lower rank
+-- a run of a machine without a loop
+module _ (m : Moves) (free : LoopFree m) (steady : IsSteady m.turn) (placed : IsPlaced m.turn) (oracle : Oracle) (bounded : (items : List Item) (code : ℕ) → oracle items code < 2 ^ 32) where
+  -- a later stage: at a later place, or at the same behind free moves
   abbrev Later : Stage → Stage → Type 0
   Later s d = AreBytes d.rest × Reached m d.config.node d.rest
-      × ((s.config.at < d.config.at) ⊎ ((d.config.at ≡ s.config.at) × (d.rest ≡ s.rest) × (rank (get_or d.rest 0 0) d.config.node < rank (get_or s.rest 0 0) s.config.node)))
+      × ((s.config.at < d.config.at) ⊎ ((d.config.at ≡ s.config.at) × (d.rest ≡ s.rest) × (n : ℕ) × FreeWay m (get_or s.rest 0 0) s.config.node (suc n) d.config.node))
 
   abbrev LaterMove : Stage → Move Stage RunResult → Type 0
   LaterMove s (Over r) = Unit {0}
@@ -174,8 +180,8 @@ module _ (m : Moves) (rank : ℕ → ℕ → ℕ) (table : IsRankTable m rank) (
   later_free : (s : Stage) (d : Config) (items : List Item) (n : ℕ) → d.at ≡ s.config.at → AreBytes s.rest → Reached m s.config.node s.rest → LeadsTo (m.turn s.config s.rest) 0 d.node →
       Later s (record { config = d; rest = s.rest; items = items; resumes = n })
   later_free s d items n p h r l =
-      let f = free_on m rank table steady oracle bounded s.config s.rest d.node r l in
-      (h, f.0, inr (p, refl, f.1))
+      let f = free_on m steady s.config s.rest d.node r l in
+      (h, f.0, inr (p, refl, zero, onward f.1 stay))
 
   later_pass : (s : Stage) (code : ℕ) (d : Config) (n : ℕ) → d.at ≡ s.config.at → AreBytes s.rest → Reached m s.config.node s.rest → LeadsTo (m.turn s.config s.rest) 0 d.node → LaterMove s (pass s code d n)
   later_pass s code d zero p h r l = tt
@@ -186,7 +192,7 @@ module _ (m : Moves) (rank : ℕ → ℕ → ℕ) (table : IsRankTable m rank) (
   later_goes s d zero items p h r e n =
       later_free s d (s.items ++ items) s.resumes (omega (arith, p)) h r (subst (λ (t : Turn). LeadsTo t 0 d.node) (sym e) (refl, refl))
   later_goes s d (suc k) items p h r e n =
-      let f = taking_on m rank table steady oracle bounded s.config s.rest d.node k h r (subst (λ (t : Turn). LeadsTo t (suc k) d.node) (sym e) (refl, refl)) n in
+      let f = taking_on m steady s.config s.rest d.node k h r (subst (λ (t : Turn). LeadsTo t (suc k) d.node) (sym e) (refl, refl)) n in
       (AreBytes-drop (suc k) s.rest h, f.1, inl (omega (arith, p)))
 
   later_by : (s : Stage) (t : Turn) → AreBytes s.rest → Reached m s.config.node s.rest → m.turn s.config s.rest ≡ t → Keeps (length s.rest) t (m.turn s.config (s.rest ++ [])) → Placed s.config (length s.rest) t →
@@ -202,31 +208,42 @@ module _ (m : Moves) (rank : ℕ → ℕ → ℕ) (table : IsRankTable m rank) (
   later_move : (s : Stage) → AreBytes s.rest → Reached m s.config.node s.rest → LaterMove s (move m.turn oracle s)
   later_move s h r = later_by s (m.turn s.config s.rest) h r refl (steady s.config s.rest []) (placed s.config s.rest)
 
+  ways : (s d e : Stage) (i j : ℕ) → d.rest ≡ s.rest → FreeWay m (get_or s.rest 0 0) s.config.node (suc i) d.config.node →
+      FreeWay m (get_or d.rest 0 0) d.config.node (suc j) e.config.node → FreeWay m (get_or s.rest 0 0) s.config.node (suc (i + suc j)) e.config.node
+  ways s d e i j same v w =
+      let longer : suc i + suc j ≡ suc (i + suc j) = omega arith in
+      subst (λ (n : ℕ). FreeWay m (get_or s.rest 0 0) s.config.node n e.config.node) longer
+      (way_more v (subst (λ (l : List ℕ). FreeWay m (get_or l 0 0) d.config.node (suc j) e.config.node) same w))
+
   later_trans : (s d e : Stage) → Later s d → Later d e → Later s e
   later_trans s d e p q = (
     q.0,
     q.1,
     elim p.2 [
       | inl a ↦ inl (elim q.2 [ inl b ↦ omega arith | inr b ↦ omega (arith, b.0) ])
-      | inr a ↦ elim q.2 [ inl b ↦ inl (omega (arith, a.0)) | inr b ↦ inr (b.0 ∙ a.0, b.1 ∙ a.1, omega (arith, a.2, b.2)) ]
+      | inr a ↦ elim q.2 [
+        | inl b ↦ inl (omega (arith, a.0))
+        | inr b ↦ inr (b.0 ∙ a.0, b.1 ∙ a.1, a.2 + suc b.2, ways s d e a.2 b.2 a.1 a.3 b.3)
+      ]
     ],
   )
 
-  later_differs : (s d : Stage) → Later s d → stand d ≡ stand s → ⊥
-  later_differs s d p e =
+  later_differs : (s d : Stage) → Reached m s.config.node s.rest → Later s d → stand d ≡ stand s → ⊥
+  later_differs s d r p e =
       let at : d.config.at ≡ s.config.at = ap (λ (x : ℕ × ℕ). x.1) e in
       let node : d.config.node ≡ s.config.node = ap (λ (x : ℕ × ℕ). x.0) e in
       elim p.2 [
         | inl a ↦ omega (arith, at)
-        | inr a ↦ (let same : rank (get_or d.rest 0 0) d.config.node ≡ rank (get_or s.rest 0 0) s.config.node = cc (a.1, node) in omega (arith, a.2))
+        | inr a ↦ free (get_or s.rest 0 0) s.config.node a.2 (reached_first m s.config.node s.rest r)
+            (subst (λ (x : ℕ). FreeWay m (get_or s.rest 0 0) s.config.node (suc a.2) x) node a.3)
       ]
 
-  not_later : (n : ℕ) (s d : Stage) → Later s d → Contains (map stand (stages (move m.turn oracle) n d)) (stand s) → ⊥
-  not_later zero s d p c = Contains_nothing (stand s) c
-  not_later (suc n) s d p c =
+  not_later : (n : ℕ) (s d : Stage) → Reached m s.config.node s.rest → Later s d → Contains (map stand (stages (move m.turn oracle) n d)) (stand s) → ⊥
+  not_later zero s d r p c = Contains_nothing (stand s) c
+  not_later (suc n) s d r p c =
       elim (Contains_head (stand d) (map stand (then_list (stages (move m.turn oracle) n) (move m.turn oracle d))) (stand s) c) [
-        | inl e ↦ later_differs s d p e
-        | inr b ↦ not_later_then (stages (move m.turn oracle) n) s d p (λ e q. not_later n s e q) (move m.turn oracle d) (later_move d p.0 p.1) b
+        | inl e ↦ later_differs s d r p e
+        | inr b ↦ not_later_then (stages (move m.turn oracle) n) s d p (λ e q. not_later n s e r q) (move m.turn oracle d) (later_move d p.0 p.1) b
       ]
     where
       not_later_then : (f : Stage → List Stage) (s d : Stage) → Later s d → ((e : Stage) → Later s e → Contains (map stand (f e)) (stand s) → ⊥) →
@@ -237,7 +254,7 @@ module _ (m : Moves) (rank : ℕ → ℕ → ℕ) (table : IsRankTable m rank) (
   none_twice_from : (n : ℕ) (s : Stage) → AreBytes s.rest → Reached m s.config.node s.rest → NoneTwice (map stand (stages (move m.turn oracle) n s))
   none_twice_from zero s h r = tt
   none_twice_from (suc n) s h r =
-      none_then (move m.turn oracle s) (later_move s h r) (λ d q. (not_later n s d q, none_twice_from n d q.0 q.1))
+      none_then (move m.turn oracle s) (later_move s h r) (λ d q. (not_later n s d r q, none_twice_from n d q.0 q.1))
     where
       none_then : (v : Move Stage RunResult) → LaterMove s v → ((d : Stage) → Later s d → (Contains (map stand (stages (move m.turn oracle) n d)) (stand s) → ⊥) × NoneTwice (map stand (stages (move m.turn oracle) n d))) →
           NoneTwice (stand s ∷ map stand (then_list (stages (move m.turn oracle) n) v))

@@ -1,2 +1,4 @@
 pub mod EachLemmas
+pub mod SteadyLaws
+pub mod ReturnLaws
 mod Rows
