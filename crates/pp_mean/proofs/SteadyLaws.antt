@@ -1,5 +1,5 @@
--- The machine of a graph is steady, placed and orderly: what waits for no byte does the same with more bytes behind, and
--- the place grows by the bytes that are taken.
+-- The machine of a graph is steady, placed, orderly and quiet: what waits for no byte does the same with more bytes behind,
+-- the place grows by the bytes that are taken, and just a pause tells a pause.
 use Rattle.std.proofs.Common.{subst, ◌≡◌, ℕ, zero, suc, ◌+◌, ◌≤◌, ◌<◌, List, [], ◌∷◌, ◌++◌, Option, Some, None, Bool, true, false, cond, refl, sym, ◌∙◌, ap, arith, length, zero-le, add-zero, map, ◌&&◌, ◌||◌, eqb, ltb, length-append}
 use Rattle.std.specs.Prelude.{slice_get, not, ◌==◌, nat_lt, unwrap_or}
 use Rattle.std.proofs.lemmas.List.{map-append, length-map}
@@ -16,9 +16,11 @@ use Rattle.pp_graph.specs.Plan.{Plan}
 use Rattle.pp_event.specs.Run.{Config, Turn, Rests, Fails}
 use Rattle.pp_event.specs.Steady.{Keeps, IsSteady, Placed, IsPlaced}
 use Rattle.pp_event.specs.Places.{SpansBehind, OrderlyTurn, IsOrderly}
+use Rattle.pp_event.specs.Quiet.{QuietTurn, IsQuietMachine}
 use Rattle.pp_event.specs.Codes.{answered, effect_of}
-use Rattle.pp_event.proofs.TurnLaws.{effect-keeps, consume-keeps, effect-placed, consume-placed, Placed-if}
+use Rattle.pp_event.proofs.TurnLaws.{effect-keeps, consume-keeps, effect-placed, consume-placed, Placed-if, effect-quiet, consume-quiet}
 use Rattle.pp_event.proofs.PlaceLaws.{to-orderly, effect-orderly, consume-orderly, open-orderly, close-orderly, orderly-if}
+use Rattle.pp_event.proofs.QuietLaws.{quiet-if}
 use Rattle.pp_mean.specs.Nodes.{common, reach, fits, longer, best, goes_on, peek_at, is_empty, other_turn, peek_turn, key_turn, waits, match_turn, kind_turn, node_turn, graph_turn, rests_at}
 
 -- a common prefix is no longer than either list
@@ -310,6 +312,33 @@ node-orderly (Some n) c rest h = kind-orderly n.kind c rest h
 
 pub graph-orderly : (g : Plan) → IsOrderly (graph_turn g)
 graph-orderly g c rest h = node-orderly (slice_get g.nodes c.node) c rest h
+
+peek-quiet : (c : Config) (other : Other) (m : ℕ) (p : Option Peek) → QuietTurn (peek_turn c other m p)
+peek-quiet c other zero (Some p) = refl
+peek-quiet c other zero None = refl
+peek-quiet c other (suc m) p = refl
+
+key-quiet : (c : Config) (keys : List Key) (peeks : List Peek) (other : Other) (s : List ℕ) (o : Option Key) → QuietTurn (key_turn c keys peeks other s o)
+key-quiet c keys peeks other s (Some k) = refl
+key-quiet c keys peeks other s None = peek-quiet c other (reach keys s) (peek_at peeks s)
+
+kind-quiet : (kind : Kind) (c : Config) (rest : List ℕ) → QuietTurn (kind_turn kind c rest)
+kind-quiet (Match fold keys peeks other) c rest =
+    let s : List ℕ = map (folded fold) rest in
+    quiet-if (waits keys peeks other s) (Rests (rests_at c rest)) (key_turn c keys peeks other s (best keys s)) tt (key-quiet c keys peeks other s (best keys s))
+kind-quiet (Invoke what answers other) c rest = effect-quiet c (answered answers other) (effect_of c.values c.carried what)
+kind-quiet (Consume p next) c rest = consume-quiet c rest p next
+kind-quiet (SpanOpen s next) c rest = refl
+kind-quiet (SpanClose s next) c rest = refl
+kind-quiet (Pause number reason next) c rest = tt
+kind-quiet (Fail number reason) c rest = tt
+
+node-quiet : (n : Option Node) (c : Config) (rest : List ℕ) → QuietTurn (node_turn n c rest)
+node-quiet None c rest = tt
+node-quiet (Some n) c rest = kind-quiet n.kind c rest
+
+pub graph-quiet : (g : Plan) → IsQuietMachine (graph_turn g)
+graph-quiet g c rest = node-quiet (slice_get g.nodes c.node) c rest
 
 -- at a place without a node it fails
 pub graph-elsewhere : (g : Plan) (c : Config) (rest : List ℕ) → length g.nodes ≤ c.node → (code : ℕ) × (graph_turn g c rest ≡ Fails code)
