@@ -81,6 +81,7 @@ module _ (m : Moves) (steady : IsSteady m.turn) where
       )
 
 module _ (m : Moves) (rank : ℕ → ℕ → ℕ) (table : IsRankTable m rank) (steady : IsSteady m.turn) (oracle : Oracle) (bounded : (items : List Item) (code : ℕ) → oracle items code < 2 ^ 32) where
+  -- a turn that takes no byte leads to a lower rank
   falls_on : (c : Config) (rest : List ℕ) (next : ℕ) → Reached m c.node rest → LeadsTo (m.turn c rest) 0 next →
       Reached m next rest × (rank (get_or rest 0 0) next < rank (get_or rest 0 0) c.node)
   falls_on c rest next r l =
@@ -208,6 +209,7 @@ module _ (m : Moves) (free : LoopFree m) (steady : IsSteady m.turn) (placed : Is
   later_move : (s : Stage) → AreBytes s.rest → Reached m s.config.node s.rest → LaterMove s (move m.turn oracle s)
   later_move s h r = later_by s (m.turn s.config s.rest) h r refl (steady s.config s.rest []) (placed s.config s.rest)
 
+  -- the free moves to one stage, and from there
   ways : (s d e : Stage) (i j : ℕ) → d.rest ≡ s.rest → FreeWay m (get_or s.rest 0 0) s.config.node (suc i) d.config.node →
       FreeWay m (get_or d.rest 0 0) d.config.node (suc j) e.config.node → FreeWay m (get_or s.rest 0 0) s.config.node (suc (i + suc j)) e.config.node
   ways s d e i j same v w =

@@ -57,6 +57,7 @@ abbrev grid : ℕ → ℕ → List (ℕ × ℕ)
 grid n zero = row n zero
 grid n (suc last) = row n (suc last) ++ grid n last
 
+-- each of them is there
 in_row : (n node at : ℕ) → node < n → Contains (row n at) (node, at)
 in_row zero node at h = absurd (omega arith)
 in_row (suc n) node at h = go (λ below. in_row n node at below) (leb n node) refl
@@ -68,6 +69,7 @@ in_row (suc n) node at h = go (λ below. in_row n node at below) (leb n node) re
         subst (λ (k : ℕ). Contains ((n, at) ∷ row n at) (k, at)) same (Contains_here (n, at) (row n at))
     go less false e = Contains_behind (n, at) (row n at) (node, at) (less (leb-false n node e))
 
+-- so is each of these
 in_grid : (n last node at : ℕ) → node < n → at ≤ last → Contains (grid n last) (node, at)
 in_grid n zero node at h k =
     let first : 0 ≡ at = omega arith in
@@ -88,14 +90,17 @@ in_grid n (suc last) node at h k = go (λ below. in_grid n last node at h below)
 abbrev EndsAt : ℕ → Stage → Type 0
 EndsAt last d = d.config.at + length d.rest ≡ last
 
+-- so they do behind a move
 abbrev EndsAtThen : ℕ → Move Stage RunResult → Type 0
 EndsAtThen last (On d) = EndsAt last d
 EndsAtThen last (Over r) = Unit {0}
 
+-- a pause keeps them
 ends_pass : (last : ℕ) (s : Stage) (code : ℕ) (d : Config) (n : ℕ) → EndsAt last s → d.at ≡ s.config.at → EndsAtThen last (pass s code d n)
 ends_pass last s code d zero h e = tt
 ends_pass last s code d (suc n) h e = ap (λ (k : ℕ). k + length s.rest) e ∙ h
 
+-- each turn does
 ends_by_turn : (oracle : Oracle) (last : ℕ) (s : Stage) (t u : Turn) → EndsAt last s → Keeps (length s.rest) t u → Placed s.config (length s.rest) t →
     EndsAtThen last (move_by oracle s t)
 ends_by_turn oracle last s (Goes d k items) u h kept p =
@@ -122,6 +127,7 @@ module _ (turn : Machine) (steady : IsSteady turn) (placed : IsPlaced turn) (nod
       (after (move turn oracle) n s ≡ Some d) × NoneTwice (stood turn oracle n s) × ((q : ℕ × ℕ) → Contains (stood turn oracle n s) q → Contains places q)
       × (length (stood turn oracle n s) ≡ n) × EndsAt last d
 
+  -- it ends there
   came_over : (n : ℕ) (d : Stage) (r : RunResult) → Came n d → (Contains (stood turn oracle n s) (stand d) → ⊥) → move turn oracle d ≡ Over r → EndsOnce turn oracle s r
   came_over n d r c fresh e = record {
     moves_made = suc n;
@@ -129,6 +135,7 @@ module _ (turn : Machine) (steady : IsSteady turn) (placed : IsPlaced turn) (nod
     once = subst NoneTwice (sym (stood_on turn oracle n s d c.0)) (NoneTwice_more (stood turn oracle n s) (stand d) c.1 fresh);
   }
 
+  -- it goes on from there
   came_on : (n : ℕ) (d e : Stage) → Came n d → (Contains (stood turn oracle n s) (stand d) → ⊥) → d.config.node < nodes → move turn oracle d ≡ On e → EndsAt last e → Came (suc n) e
   came_on n d e c fresh h m place =
       let longer : stood turn oracle (suc n) s ≡ stood turn oracle n s ++ stand d ∷ [] = stood_on turn oracle n s d c.0 in
@@ -145,11 +152,13 @@ module _ (turn : Machine) (steady : IsSteady turn) (placed : IsPlaced turn) (nod
         place,
       )
 
+  -- one or the other
   came_by : (n : ℕ) (d : Stage) → Came n d → (Contains (stood turn oracle n s) (stand d) → ⊥) → d.config.node < nodes → (v : Move Stage RunResult) → move turn oracle d ≡ v → EndsAtThen last v →
       ((e : Stage) → Came (suc n) e → EndsOrReturns turn oracle s) → EndsOrReturns turn oracle s
   came_by n d c fresh h (On e) m place go = go e (came_on n d e c fresh h m place)
   came_by n d c fresh h (Over r) m place go = inl (r, came_over n d r c fresh m)
 
+  -- and before that it may be at a node where it stood
   came_to : (n : ℕ) (d : Stage) → Came n d → ((e : Stage) → Came (suc n) e → EndsOrReturns turn oracle s) →
       (b : Bool) → has_pair (stood turn oracle n s) (stand d) ≡ b → (o : Bool) → leb nodes d.config.node ≡ o → EndsOrReturns turn oracle s
   came_to n d c go true t o e =
@@ -161,6 +170,7 @@ module _ (turn : Machine) (steady : IsSteady turn) (placed : IsPlaced turn) (nod
       came_by n d c (λ h. (let y : has_pair (stood turn oracle n s) (stand d) ≡ true = contains-has_pair (stood turn oracle n s) (stand d) h in cc)) (leb-false nodes d.config.node e)
       (move turn oracle d) refl (ends_by_turn oracle last d (turn d.config d.rest) (turn d.config (d.rest ++ [])) c.4 (steady d.config d.rest []) (placed d.config d.rest)) go
 
+  -- it does so within as many moves as there are places
   goes_for : (left n : ℕ) (d : Stage) → length places < n + left → Came n d → EndsOrReturns turn oracle s
   goes_for zero n d h c =
       let most : length (stood turn oracle n s) ≤ length places = no_more_pairs (stood turn oracle n s) places c.1 c.2 in

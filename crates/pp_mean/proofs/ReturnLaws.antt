@@ -1,6 +1,6 @@
 -- The run of a graph ends, having come to no node twice at one place, or it comes to a node twice at one place. Without a
 -- loop it ends.
-use Rattle.std.proofs.Common.{◌⊎◌, inl, inr, ◌≡◌, ℕ, Option, length, refl}
+use Rattle.std.proofs.Common.{◌⊎◌, inl, inr, ℕ, Option, length, refl}
 use Rattle.std.specs.Prelude.{slice_get}
 use Rattle.pp_event.specs.Loops.{AreBytes}
 use Rattle.pp_event.specs.Run.{Stage, RunResult}
@@ -16,15 +16,19 @@ use Rattle.pp_mean.proofs.SteadyLaws.{graph-steady, graph-placed, graph-elsewher
 abbrev pub EndsOrComesBack : Given → Type 0
 EndsOrComesBack x = ((r : RunResult) × EndsOnce x r) ⊎ ((node : ℕ) × (byte : Option ℕ) × ComesBack x node byte)
 
+-- an end, as the lemmas of runs give it
 ends : (x : Given) (r : RunResult) → run.EndsOnce (graph_turn x.graph) x.oracle (begin x) r → EndsOnce x r
 ends x r e = record { moves_made = e.moves_made; ended = e.ended; once = e.once }
 
+-- a return, as they give it
 comes_back : (x : Given) (d : Stage) → run.Returns (graph_turn x.graph) x.oracle (begin x) d → ComesBack x d.config.node (slice_get x.bytes d.config.at)
 comes_back x d b = record { moves_made = b.moves_made; stage = d; there = b.there; node_is = refl; byte_is = refl; once = b.once; again = b.again }
 
+-- and as they take it
 returns : (x : Given) (node : ℕ) (byte : Option ℕ) → (b : ComesBack x node byte) → run.Returns (graph_turn x.graph) x.oracle (begin x) b.stage
 returns x node byte b = record { moves_made = b.moves_made; there = b.there; once = b.once; again = b.again }
 
+-- each run does one
 pub ends_or_comes_back : (x : Given) → EndsOrComesBack x
 ends_or_comes_back x =
     elim (run.run_or_return (graph_turn x.graph) (graph-steady x.graph) (graph-placed x.graph) (length x.graph.nodes) (graph-elsewhere x.graph) x.oracle (begin x)) [
@@ -32,6 +36,7 @@ ends_or_comes_back x =
       | inr b ↦ inr (b.0.config.node, slice_get x.bytes b.0.config.at, comes_back x b.0 b.1)
     ]
 
+-- and no run does both
 pub not_both : (x : Given) (r : RunResult) (node : ℕ) (byte : Option ℕ) → EndsOnce x r → ComesBack x node byte → ⊥
 not_both x r node byte e b =
     run.ends_or_returns (graph_turn x.graph) x.oracle (begin x) b.stage r (record { moves_made = e.moves_made; ended = e.ended; once = e.once }) (returns x node byte b)

@@ -33,6 +33,7 @@ common-le (x ∷ k) (b ∷ s) = step (eqb x b) (common-le k s)
     step true i = omega arith
     step false i = zero-le
 
+-- nor than the key
 common-le_key : (k s : List ℕ) → common k s ≤ length k
 common-le_key [] s = zero-le
 common-le_key (x ∷ k) [] = zero-le
@@ -46,10 +47,12 @@ common-le_key (x ∷ k) (b ∷ s) = step (eqb x b) (common-le_key k s)
 abbrev Stops_short : List ℕ → List ℕ → Type 0
 Stops_short k s = common k s ≡ length s → length s < length k → ⊥
 
+-- one byte more in common
 common_more_by : (v : Bool) (m n : ℕ) → (v ≡ true → m ≡ n) → cond v (suc m) 0 ≡ cond v (suc n) 0
 common_more_by true m n h = ap suc (h refl)
 common_more_by false m n h = refl
 
+-- what stops short behind a common byte stops short from there on
 common_tail : (v : Bool) (m n l : ℕ) → v ≡ true → (cond v (suc m) 0 ≡ suc n → suc n < suc l → ⊥) → m ≡ n → n < l → ⊥
 common_tail true m n l t h e p = h (ap suc e) (omega arith)
 common_tail false m n l t h e p = cc
@@ -62,23 +65,28 @@ common-more (x ∷ k) (b ∷ s) more h =
     common_more_by (eqb x b) (common k (s ++ more)) (common k s)
     (λ t. common-more k s more (common_tail (eqb x b) (common k s) (length s) (length k) t h))
 
+-- so for each key
 abbrev StopShort : List Key → List ℕ → Type 0
 StopShort [] s = Unit {0}
 StopShort (k ∷ keys) s = Stops_short k.bytes s × StopShort keys s
 
+-- of two that are not, neither is
 or_false : (a b : Bool) → a || b ≡ false → (a ≡ false) × (b ≡ false)
 or_false true b h = cc
 or_false false b h = (refl, h)
 
+-- a key that does not go on stops short
 stops_short : (a b m : ℕ) → (a == b) && nat_lt b m ≡ false → a ≡ b → b < m → ⊥
 stops_short a b m h e l = let t : (a == b) && nat_lt b m ≡ true = rw (eq-eqb a b e, lt-ltb b m l) refl in cc
 
+-- where no key goes on, each does
 stop_short : (keys : List Key) (s : List ℕ) → goes_on keys s ≡ false → StopShort keys s
 stop_short [] s h = tt
 stop_short (k ∷ keys) s h =
     let both : (((common k.bytes s == length s) && nat_lt (length s) (length k.bytes)) ≡ false) × (goes_on keys s ≡ false) = or_false _ _ h in
     (stops_short (common k.bytes s) (length s) (length k.bytes) both.0, stop_short keys s both.1)
 
+-- and so one does not go on
 goes_on_by : (a b m : ℕ) → (a ≡ b → b < m → ⊥) → (a == b) && nat_lt b m ≡ false
 goes_on_by a b m h = go (eqb a b) (ltb b m) refl refl
   where
@@ -100,6 +108,7 @@ goes_on-more (k ∷ keys) s more h =
     h.0 (omega arith) (omega arith)) in
     rw (here, goes_on-more keys s more h.1) refl
 
+-- the longest common prefix stays, and the longest key that fits
 reach-more : (keys : List Key) (s more : List ℕ) → StopShort keys s → reach keys (s ++ more) ≡ reach keys s
 reach-more [] s more h = refl
 reach-more (k ∷ keys) s more h = rw (common-more k.bytes s more h.0, reach-more keys s more h.1) refl
@@ -113,6 +122,7 @@ abbrev IsFit : List ℕ → Option Key → Type 0
 IsFit s None = Unit {0}
 IsFit s (Some k) = length k.bytes ≤ length s
 
+-- of two that do, the longer one does
 longer-fit : (s : List ℕ) (k : Key) (o : Option Key) → length k.bytes ≤ length s → IsFit s o → length (longer k o).bytes ≤ length s
 longer-fit s k None h i = h
 longer-fit s k (Some l) h i = go (nat_lt (length k.bytes) (length l.bytes))
@@ -132,13 +142,16 @@ best-fit (k ∷ keys) s = go (fits s k) refl (best-fit keys s)
         longer-fit s k (best keys s) (omega arith) i
     go false e i = i
 
+-- so has the longest common prefix
 reach-le : (keys : List Key) (s : List ℕ) → reach keys s ≤ length s
 reach-le [] s = zero-le
 reach-le (k ∷ keys) s = (let i : reach keys s ≤ length s = reach-le keys s in let c : common k.bytes s ≤ length s = common-le k.bytes s in omega arith)
 
+-- less, and not the same
 below : (a b : ℕ) → a ≤ b → (a ≡ b → ⊥) → a < b
 below a b h ne = grind arith
 
+-- where no key fits, the first does not, and none behind it
 none_here : (k : Key) (s : List ℕ) (o : Option Key) → cond (fits s k) (Some (longer k o)) o ≡ None → (common k.bytes s ≡ length k.bytes → ⊥) × (o ≡ None)
 none_here k s o h = go (fits s k) refl h
   where
@@ -161,11 +174,13 @@ reach-lt (k ∷ keys) s n h e =
 abbrev Quiet : List Key → List Peek → Other → List ℕ → Type 0
 Quiet keys peeks other s = waits keys peeks other s ≡ false
 
+-- the same of three
 or3_false : (a b c : Bool) → a || b || c ≡ false → (a ≡ false) × (b ≡ false) × (c ≡ false)
 or3_false true b c h = cc
 or3_false false true c h = cc
 or3_false false false c h = (refl, refl, h)
 
+-- what is not without elements has none
 not_false : {A : Type 0} (xs : List A) → not (is_empty xs) ≡ false → xs ≡ []
 not_false [] h = refl
 not_false (x ∷ xs) h = cc
@@ -174,28 +189,34 @@ and_false : (v : Bool) → v && false ≡ false
 and_false true = refl
 and_false false = refl
 
+-- a test of an empty list says the same of a longer one, where it failed
 empty-more : (s t : List ℕ) (x : Bool) → is_empty s && x ≡ false → is_empty (s ++ t) && x ≡ false
 empty-more [] t x h = rw h (and_false (is_empty t))
 empty-more (b ∷ s) t x h = refl
 
+-- without a peek there is none at a byte
 peek_none : (t : List ℕ) → peek_at [] t ≡ None
 peek_none [] = refl
 peek_none (b ∷ t) = refl
 
+-- the byte that a node looks at stays the first
 peek-more : (peeks : List Peek) (s t : List ℕ) (a c : Bool) → is_empty s && (a || not (is_empty peeks) || c) ≡ false → peek_at peeks (s ++ t) ≡ peek_at peeks s
 peek-more peeks [] t a c h =
     let none : peeks ≡ [] = not_false peeks (or3_false a (not (is_empty peeks)) c h).1 in
     subst (λ (p : List Peek). peek_at p t ≡ peek_at p []) (sym none) (peek_none t)
 peek-more peeks (b ∷ s) t a c h = refl
 
+-- a byte that is skipped is there
 skip-lt : (keys : List Key) (s : List ℕ) (a b skip : Bool) → is_empty s && (a || b || skip) ≡ false → StopShort keys s → best keys s ≡ None → skip ≡ true → reach keys s < length s
 skip-lt keys [] a b skip h q e t = let f : skip ≡ false = (or3_false a b skip h).2 in cc
 skip-lt keys (x ∷ s) a b skip h q e t = reach-lt keys (x ∷ s) (omega arith) q e
 
+-- what an otherwise takes is there
 taken-le : (skip : Bool) (m n : ℕ) → m ≤ n → (skip ≡ true → m < n) → cond skip (m + 1) m ≤ n
 taken-le true m n h k = let l : m < n = k refl in omega arith
 taken-le false m n h k = h
 
+-- a peek, an otherwise and a key take bytes that are there
 peek-keeps : (c : Config) (other : Other) (m n : ℕ) (p : Option Peek) → m ≤ n → (other.skip ≡ true → m < n) → Keeps n (peek_turn c other m p) (peek_turn c other m p)
 peek-keeps c other zero n (Some p) h k = (zero-le, refl)
 peek-keeps c other zero n None h k = (taken-le other.skip 0 n h k, refl)
@@ -206,14 +227,17 @@ key-keeps : (c : Config) (keys : List Key) (peeks : List Peek) (other : Other) (
 key-keeps c keys peeks other s (Some k) e i l = (i, refl)
 key-keeps c keys peeks other s None e i l = peek-keeps c other (reach keys s) (length s) (peek_at peeks s) (reach-le keys s) (l e)
 
+-- and with more bytes behind they are the same
 key_turn-more : (c : Config) (keys : List Key) (peeks : List Peek) (other : Other) (s t : List ℕ) (o : Option Key) → reach keys (s ++ t) ≡ reach keys s → peek_at peeks (s ++ t) ≡ peek_at peeks s →
     key_turn c keys peeks other (s ++ t) o ≡ key_turn c keys peeks other s o
 key_turn-more c keys peeks other s t (Some k) r p = refl
 key_turn-more c keys peeks other s t None r p = rw (r, p) refl
 
+-- a match node that waits, or does not
 abbrev match_by : Config → List ℕ → List Key → List Peek → Other → List ℕ → Bool → Turn
 match_by c rest keys peeks other s v = cond v (Rests (rests_at c rest)) (key_turn c keys peeks other s (best keys s))
 
+-- where it does not wait, its turn is kept
 match_keeps_by : (c : Config) (rest more : List ℕ) (keys : List Key) (peeks : List Peek) (other : Other) (s t : List ℕ) → length s ≡ length rest → (v : Bool) → waits keys peeks other s ≡ v →
     Keeps (length rest) (match_by c rest keys peeks other s v) (match_turn c (rest ++ more) keys peeks other (s ++ t))
 match_keeps_by c rest more keys peeks other s t n true e = tt
@@ -231,6 +255,7 @@ match_keeps_by c rest more keys peeks other s t n false e =
     subst (λ (m : ℕ). Keeps m (key_turn c keys peeks other s (best keys s)) (match_turn c (rest ++ more) keys peeks other (s ++ t))) n
     (subst (λ (u : Turn). Keeps (length s) (key_turn c keys peeks other s (best keys s)) u) (sym whole) keeps)
 
+-- each kind of node is steady
 kind-keeps : (kind : Kind) (c : Config) (rest more : List ℕ) → Keeps (length rest) (kind_turn kind c rest) (kind_turn kind c (rest ++ more))
 kind-keeps (Match fold keys peeks other) c rest more =
     subst (λ (l : List ℕ). Keeps (length rest) (match_turn c rest keys peeks other (map (folded fold) rest)) (match_turn c (rest ++ more) keys peeks other l))
@@ -247,9 +272,11 @@ node-keeps : (n : Option Node) (c : Config) (rest more : List ℕ) → Keeps (le
 node-keeps None c rest more = refl
 node-keeps (Some n) c rest more = kind-keeps n.kind c rest more
 
+-- more bytes change no turn of a graph but one that waits
 pub graph-steady : (g : Plan) → IsSteady (graph_turn g)
 graph-steady g c rest more = node-keeps (slice_get g.nodes c.node) c rest more
 
+-- the edges of a match node grow the place by the bytes that they take
 peek-placed : (c : Config) (other : Other) (m n : ℕ) (p : Option Peek) → Placed c n (peek_turn c other m p)
 peek-placed c other zero n (Some p) = refl
 peek-placed c other zero n None = refl
@@ -259,6 +286,7 @@ key-placed : (c : Config) (keys : List Key) (peeks : List Peek) (other : Other) 
 key-placed c keys peeks other s n (Some k) = refl
 key-placed c keys peeks other s n None = peek-placed c other (reach keys s) n (peek_at peeks s)
 
+-- each kind of node does
 kind-placed : (kind : Kind) (c : Config) (rest : List ℕ) → Placed c (length rest) (kind_turn kind c rest)
 kind-placed (Match fold keys peeks other) c rest =
     let s : List ℕ = map (folded fold) rest in
@@ -275,9 +303,11 @@ node-placed : (n : Option Node) (c : Config) (rest : List ℕ) → Placed c (len
 node-placed None c rest = tt
 node-placed (Some n) c rest = kind-placed n.kind c rest
 
+-- each turn of a graph keeps the place
 pub graph-placed : (g : Plan) → IsPlaced (graph_turn g)
 graph-placed g c rest = node-placed (slice_get g.nodes c.node) c rest
 
+-- the edges of a match node are orderly
 other-orderly : (c : Config) (other : Other) (m : ℕ) → SpansBehind c → OrderlyTurn c (other_turn c other m)
 other-orderly c other m h = to-orderly c other.target (cond other.skip (m + 1) m) 0 h
 
@@ -294,6 +324,7 @@ key-orderly c keys peeks other s None h = peek-orderly c other (reach keys s) (p
 rests-behind : (c : Config) (rest : List ℕ) → SpansBehind c → SpansBehind (rests_at c rest)
 rests-behind c rest h span from o = (let p : from ≤ c.at = h span from o in omega arith)
 
+-- each kind of node is
 kind-orderly : (kind : Kind) (c : Config) (rest : List ℕ) → SpansBehind c → OrderlyTurn c (kind_turn kind c rest)
 kind-orderly (Match fold keys peeks other) c rest h =
     let s : List ℕ = map (folded fold) rest in
@@ -310,9 +341,11 @@ node-orderly : (n : Option Node) (c : Config) (rest : List ℕ) → SpansBehind 
 node-orderly None c rest h = tt
 node-orderly (Some n) c rest h = kind-orderly n.kind c rest h
 
+-- a graph tells its items in order, and keeps its open spans behind its place
 pub graph-orderly : (g : Plan) → IsOrderly (graph_turn g)
 graph-orderly g c rest h = node-orderly (slice_get g.nodes c.node) c rest h
 
+-- the edges of a match node tell nothing
 peek-quiet : (c : Config) (other : Other) (m : ℕ) (p : Option Peek) → QuietTurn (peek_turn c other m p)
 peek-quiet c other zero (Some p) = refl
 peek-quiet c other zero None = refl
@@ -322,6 +355,7 @@ key-quiet : (c : Config) (keys : List Key) (peeks : List Peek) (other : Other) (
 key-quiet c keys peeks other s (Some k) = refl
 key-quiet c keys peeks other s None = peek-quiet c other (reach keys s) (peek_at peeks s)
 
+-- no kind of node tells a pause by itself
 kind-quiet : (kind : Kind) (c : Config) (rest : List ℕ) → QuietTurn (kind_turn kind c rest)
 kind-quiet (Match fold keys peeks other) c rest =
     let s : List ℕ = map (folded fold) rest in
@@ -337,6 +371,7 @@ node-quiet : (n : Option Node) (c : Config) (rest : List ℕ) → QuietTurn (nod
 node-quiet None c rest = tt
 node-quiet (Some n) c rest = kind-quiet n.kind c rest
 
+-- a graph tells no pause but where it pauses
 pub graph-quiet : (g : Plan) → IsQuietMachine (graph_turn g)
 graph-quiet g c rest = node-quiet (slice_get g.nodes c.node) c rest
 
