@@ -1,5 +1,5 @@
 -- Worked runs, which the definitions compute.
-use Rattle.std.proofs.Common.{◌≡◌, ℕ, ◌+◌, ◌-◌, ◌^◌, Option, List, [], ◌∷◌, None, Some, true, false, refl, ap, arith, replicate}
+use Rattle.std.proofs.Common.{◌≡◌, ℕ, ◌+◌, ◌-◌, ◌^◌, Option, List, [], ◌∷◌, None, Some, true, false, refl, subst, ap, arith, replicate, zero, suc, ◌<◌, ◌≤◌, inl, inr}
 use Rattle.pp_graph.specs.declared.node.Code.{Code}
 use Rattle.pp_graph.specs.declared.node.Code.TheVariants as code
 use Rattle.pp_bytes.specs.declared.fold.Fold.TheVariants.{Same, Lower}
@@ -16,10 +16,13 @@ use Rattle.pp_event.specs.declared.item.Item.TheVariants.{Call, Span}
 use Rattle.pp_event.specs.declared.item.Item.TheVariants as item
 use Rattle.pp_event.specs.declared.script.ScriptEntry.{ScriptEntry}
 use Rattle.pp_event.specs.declared.script.ScriptTo.TheVariants as script_to
-use Rattle.pp_event.specs.Run.{Finish, Waiting, Paused, Failed, RunResult, start}
+use Rattle.std.specs.Prelude.{slice_get}
+use Rattle.pp_event.specs.Run.{Config, Finish, Waiting, Paused, Failed, RunResult, start}
 use Rattle.pp_event.specs.Answers.{by_list, by_script}
-use Rattle.pp_event.specs.Loops.{NoneTwice}
+use Rattle.pp_event.specs.Loops.{Moves, FreeMove, FreeWay, LeadsTo, NoneTwice, at_entry, stay, onward}
 use Rattle.pp_event.proofs.OnceLemmas.{Contains_one, Contains_nothing}
+use Rattle.pp_mean.specs.Loops.{graph_moves, IsLoopFree}
+use Rattle.pp_mean.specs.Nodes.{node_turn}
 use Rattle.pp_mean.specs.Mean.{Means, entry_with, values_by}
 use Rattle.pp_mean.specs.Whole.{Given, ComesBack}
 
@@ -424,3 +427,44 @@ comes_back = record { moves_made = 2; stage = start (entry_with to_and_fro []) (
 
 back_at_the_end : ComesBack (given []) 0 None
 back_at_the_end = record { moves_made = 2; stage = start (entry_with to_and_fro []) [] 0; there = refl; node_is = refl; byte_is = refl; once = apart; again = (0, omega arith, refl) }
+
+abbrev at_node : ℕ → Config
+at_node n = record { node = n; at = 0; carried = 0; values = []; spans = [] }
+
+-- it has a loop
+has_loop : IsLoopFree to_and_fro → ⊥
+has_loop free =
+    free 97 0 1 (at_entry (omega arith))
+    (onward {next = 1} (inl (at_node 0, [], refl, (refl, refl))) (onward {next = 0} (inl (at_node 1, [], refl, (refl, refl))) stay))
+
+-- an answer's edge counts, also where the code never answers so
+abbrev edge_back : Plan
+edge_back = graph_of (node (Invoke (code.Equal 0 9) (answer 7 0 ∷ []) 1) ∷ node (Fail 1 []) ∷ [])
+
+edge_counts : IsLoopFree edge_back → ⊥
+edge_counts free = free 0 0 0 (at_entry (omega arith)) (onward {next = 0} (inr (inr (0, answer 7 0, omega arith, refl, refl))) stay)
+
+-- a graph whose free moves all lead to later nodes has none
+rises : (m : Moves) → ((b node next : ℕ) → FreeMove m b node next → node < next) → {b node n end : ℕ} → FreeWay m b node n end → node + n ≤ end
+rises m rise stay = omega arith
+rises m rise {b} {node} (onward {next = next} {end = end} {n = n} f w) =
+    let first : node < next = rise b node next f in
+    let rest : next + n ≤ end = rises m rise w in
+    omega arith
+
+goes_later : (b node next : ℕ) → FreeMove (graph_moves goes_at_once) b node next → node < next
+goes_later b zero next (inl (c, bytes, e, l)) =
+    let leads : LeadsTo (node_turn (slice_get goes_at_once.nodes 0) c (b ∷ bytes)) 0 next =
+    subst (λ (n : ℕ). LeadsTo (node_turn (slice_get goes_at_once.nodes n) c (b ∷ bytes)) 0 next) e l in
+    let one : 1 ≡ next = leads.1 in
+    omega (arith, one)
+goes_later b (suc zero) next (inl (c, bytes, e, l)) =
+    absurd (subst (λ (n : ℕ). LeadsTo (node_turn (slice_get goes_at_once.nodes n) c (b ∷ bytes)) 0 next) e l)
+goes_later b (suc (suc node)) next (inl (c, bytes, e, l)) =
+    absurd (subst (λ (n : ℕ). LeadsTo (node_turn (slice_get goes_at_once.nodes n) c (b ∷ bytes)) 0 next) e l)
+goes_later b zero next (inr e) = absurd e
+goes_later b (suc zero) next (inr e) = absurd e
+goes_later b (suc (suc node)) next (inr e) = absurd e
+
+has_no_loop : IsLoopFree goes_at_once
+has_no_loop b node n r w = (let far : node + suc n ≤ node = rises (graph_moves goes_at_once) goes_later w in omega arith)
