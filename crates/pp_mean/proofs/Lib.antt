@@ -1,2 +1,6 @@
 pub mod EachLemmas
+pub mod MatchLemmas
+pub mod TurnLemmas
+pub mod RunLemmas
+pub mod WholeLemmas
 mod Rows

@@ -1,9 +1,10 @@
 // Where a match node leads.
-ghost use Rattle.std.specs.Prelude.{◌≡◌, ◌≤◌, ◌==◌, ℕ, Some, IfSome, length, map, option_map, find};
+ghost use Rattle.std.specs.Prelude.{◌≡◌, ◌<◌, ◌≤◌, ◌+◌, ◌^◌, ◌==◌, if◌then◌else◌, ℕ, Some, IfSome, length, map, option_map, find};
 ghost use Rattle.pp_graph.specs.declared.node.Peek.{Peek};
 ghost use Rattle.pp_bytes.specs.Fold.{folded};
 ghost use Rattle.pp_event.specs.Run.{Config};
-ghost use Rattle.pp_mean.specs.Nodes.{common, fits, reach, best, goes_on, waits, match_turn, peek_at};
+ghost use Rattle.pp_event.specs.Turns.{to};
+ghost use Rattle.pp_mean.specs.Nodes.{common, fits, reach, best, goes_on, waits, match_turn, peek_turn, peek_at};
 ghost use Rattle.pp_mean.specs.Steps.{edge_turn, key_edge, farther, outlasts};
 
 use pp_bytes::Fold;
@@ -31,24 +32,35 @@ pub(crate) fn edge_at(
     if waits(fold, keys, peeks, other, rest) {
         return None;
     }
-    if let Some(edge) = best(fold, keys, rest) {
-        return Some(edge);
+    match best(fold, keys, rest) {
+        Some(edge) => Some(edge),
+        None => {
+            let reached = reach(fold, keys, rest);
+            Some(other_edge(other, reached, peek_at(fold, peeks, rest)))
+        }
     }
-    let reached = reach(fold, keys, rest);
+}
+
+// The edge where no key fits: that of a peek where no byte was reached, else the otherwise.
+fn other_edge(other: Other, reached: usize, peek: Option<Peek>) -> Edge
+    requires { reached < 2 ^ 63 }
+    ensures turn { (c : Config) → peek_turn c other reached peek ≡ to c result.target result.taken result.number }
+    ensures taken { result.taken ≤ (if other.skip then reached + 1 else reached) }
+{
     if reached == 0 {
-        if let Some(peek) = peek_at(fold, peeks, rest) {
-            return Some(Edge {
+        if let Some(peek) = peek {
+            return Edge {
                 target: peek.target,
                 taken: 0,
                 number: 0,
-            });
+            };
         }
     }
-    Some(Edge {
+    Edge {
         target: other.target,
         taken: if other.skip { reached + 1 } else { reached },
         number: 0,
-    })
+    }
 }
 
 // Whether a match node waits where these bytes are left.

@@ -5,7 +5,7 @@ ghost use Rattle.pp_event.specs.declared.item.Item.TheVariants.{Call};
 ghost use Rattle.pp_event.specs.Answers.{by_script};
 ghost use Rattle.pp_event.specs.Chain.{On};
 ghost use Rattle.pp_event.specs.Codes.{effect_of, answered};
-ghost use Rattle.pp_event.specs.Run.{Stops, Oracle, move_by, telling, start};
+ghost use Rattle.pp_event.specs.Run.{Oracle, move_by, pass, telling, start};
 ghost use Rattle.pp_event.specs.Turns.{effect_turn, consume_turn, open_turn, close_turn};
 ghost use Rattle.pp_mean.specs.declared.whole.End.TheVariants.{Waits};
 ghost use Rattle.pp_mean.specs.Nodes.{kind_turn, match_turn};
@@ -50,7 +50,13 @@ impl<'b> Model for Run<'b> {
 
 impl<'b> Run<'b> {
     /// The beginning of the run of a graph.
-    pub(crate) fn begin(alloc: Global, graph: &Graph, sets: &[(u32, u64)], resumes: u64, bytes: &'b [u8]) -> Run<'b>
+    pub(crate) fn begin(
+        alloc: Global,
+        graph: &Graph,
+        sets: &[(u32, u64)],
+        resumes: u64,
+        bytes: &'b [u8],
+    ) -> Run<'b>
         requires { SetsFit graph.now sets.now }
         ensures { result ≡ start (entry_with graph.now (values_by graph.now sets.now)) bytes.now resumes }
     {
@@ -81,7 +87,11 @@ impl<'b> Run<'b> {
     }
 
     /// Makes the move of a node of this kind, and tells how the run ended, if it did.
-    pub(crate) fn advance(&mut self, kind: &Kind, script: &Script) -> Result<Option<End>, AllocError>
+    pub(crate) fn advance(
+        &mut self,
+        kind: &Kind,
+        script: &Script,
+    ) -> Result<Option<End>, AllocError>
         requires { UsesKind self.old.config kind.now }
         ensures { IfOk result (λ end. Made self.new end (move_by (by_script script.now) self.old (kind_turn kind.now self.old.config self.old.rest))) }
     {
@@ -117,6 +127,13 @@ impl<'b> Run<'b> {
         }
     }
 
+    // The bytes that are left.
+    fn rest(&self) -> &'b [u8]
+        ensures { result.now ≡ self.now.rest }
+    {
+        &self.bytes[self.at..]
+    }
+
     // Goes on to a node.
     fn enter(&mut self, node: u32, number: u32)
         ensures { self.new ≡ record self.old { config = record self.old.config { node = node; carried = number } } }
@@ -147,7 +164,7 @@ impl<'b> Run<'b> {
     fn compare(&mut self, fold: Fold, keys: &[Key], peeks: &[Peek], other: Other) -> Option<End>
         ensures { (oracle : Oracle) → Made self.new result (move_by oracle self.old (match_turn self.old.config self.old.rest keys.now peeks.now other (map (folded fold) self.old.rest))) }
     {
-        match edge_at(fold, keys, peeks, other, &self.bytes[self.at..]) {
+        match edge_at(fold, keys, peeks, other, self.rest()) {
             Some(edge) => {
                 self.take(edge.taken);
                 self.enter(edge.target, edge.number);
@@ -158,7 +175,13 @@ impl<'b> Run<'b> {
     }
 
     // Runs a code.
-    fn invoke(&mut self, code: Code, answers: &[Answer], other: u32, script: &Script) -> Result<(), AllocError>
+    fn invoke(
+        &mut self,
+        code: Code,
+        answers: &[Answer],
+        other: u32,
+        script: &Script,
+    ) -> Result<(), AllocError>
         requires props { Uses (length self.old.config.values) code }
         ensures { OnOk result (move_by (by_script script.now) self.old (effect_turn self.old.config (answered answers.now other) (effect_of self.old.config.values self.old.config.carried code)) ≡ On self.new) }
     {
@@ -235,7 +258,7 @@ impl<'b> Run<'b> {
 
     // Tells a pause, and passes it or ends there.
     fn pause(&mut self, code: u32, next: u32) -> Result<Option<End>, AllocError>
-        ensures { IfOk result (λ end. (oracle : Oracle) → Made self.new end (move_by oracle self.old (Stops code (record self.old.config { node = next; carried = 0 })))) }
+        ensures { IfOk result (λ end. Made self.new end (pass self.old code (record self.old.config { node = next; carried = 0 }) self.old.resumes)) }
     {
         self.items.pause(code, self.at as u64)?;
         if self.resumes == 0 {
@@ -251,7 +274,7 @@ impl<'b> Run<'b> {
 
     /// What the run gave, where it ended so.
     pub(crate) fn ended(self, alloc: Global, end: End) -> Result<WholeRun, AllocError>
-        ensures { IfOk result (λ w. ShowsStage self end w) }
+        ensures { IfOk result (λ w. ShowsStage self.entry end w) }
     {
         let spans = open_spans(alloc, &self.spans)?;
         Ok(WholeRun {
@@ -278,7 +301,7 @@ fn values_by(graph: &Graph, sets: &[(u32, u64)]) -> Props
 
 // The open spans in order, each with its start.
 fn open_spans(alloc: Global, spans: &Spans) -> Result<Vec<(u32, u64)>, AllocError>
-    ensures { IfOk result (λ open. open.items ≡ open_from 0 spans.now) }
+    ensures { IfOk result (λ slots. slots.items ≡ open_from 0 spans.now) }
 {
     let mut open: Vec<(u32, u64)> = Vec::new(alloc);
     for span in 0..spans.len() {
