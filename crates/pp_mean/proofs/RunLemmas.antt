@@ -1,6 +1,6 @@
 -- The moves that the code makes, by the stages that its steps lead to.
-use Rattle.std.proofs.Common.{◌≡◌, ℕ, zero, suc, ◌+◌, ◌<◌, List, [], ◌∷◌, Option, Some, None, refl, sym, ◌∙◌, ap, subst, arith, length, get_or, map, drop, replicate, append-nil}
-use Rattle.std.specs.Prelude.{count_by}
+use Rattle.std.proofs.Common.{◌≡◌, ℕ, zero, suc, ◌+◌, ◌<◌, List, [], ◌∷◌, Option, Some, None, refl, sym, ◌∙◌, ap, subst, arith, length, get_or, map, drop, replicate, append-nil, ◌++◌, append_assoc, add-one}
+use Rattle.std.specs.Prelude.{count_by, slice_get}
 use Rattle.pp_bytes.specs.declared.fold.Fold.{Fold}
 use Rattle.pp_bytes.specs.Fold.{folded}
 use Rattle.pp_graph.specs.declared.node.Key.{Key}
@@ -16,6 +16,7 @@ use Rattle.pp_event.specs.Turns.{to}
 use Rattle.pp_mean.specs.declared.whole.End.{End}
 use Rattle.pp_mean.specs.declared.whole.End.TheVariants as end_as
 use Rattle.pp_mean.specs.Nodes.{kind_turn, match_turn, rests_at}
+use Rattle.pp_mean.specs.Whole.{open_from}
 use Rattle.pp_mean.specs.Steps.{Made, CountsCalls, took, waited}
 
 -- at an edge: the bytes are taken, and then the node is entered
@@ -42,6 +43,25 @@ match-made oracle s new end kind fold keys keys_seen peeks peeks_seen other is k
     subst (λ (x : Kind). Made new end (move_by oracle s (kind_turn x s.config s.rest))) (sym is)
     (subst (λ (x : List Key). Made new end (move_by oracle s (match_turn s.config s.rest x peeks other (map (folded fold) s.rest)))) k
     (subst (λ (x : List Peek). Made new end (move_by oracle s (match_turn s.config s.rest keys_seen x other (map (folded fold) s.rest)))) p h))
+
+-- one slot, and those behind it
+open_from-more : (n : ℕ) (o : Option ℕ) (slots : List (Option ℕ)) → open_from n (o ∷ slots) ≡ open_from n (o ∷ []) ++ open_from (suc n) slots
+open_from-more n None slots = refl
+open_from-more n (Some from) slots = refl
+
+drop-at : (slots : List (Option ℕ)) (i : ℕ) (o : Option ℕ) → slice_get slots i ≡ Some o → drop i slots ≡ o ∷ drop (suc i) slots
+drop-at [] zero o e = cc
+drop-at [] (suc i) o e = cc
+drop-at (x ∷ slots) zero o e = (let same : x ≡ o = cc in ap (λ (y : Option ℕ). y ∷ slots) same)
+drop-at (x ∷ slots) (suc i) o e = drop-at slots i o e
+
+-- the slot of one span more was looked at
+pub open-more : (slots : List (Option ℕ)) (n : ℕ) (o : Option ℕ) (old new all : List (ℕ × ℕ)) → slice_get slots n ≡ Some o → new ≡ old ++ open_from n (o ∷ []) →
+    old ++ open_from n (drop n slots) ≡ all → new ++ open_from (n + 1) (drop (n + 1) slots) ≡ all
+open-more slots n o old new all at e h =
+    let split : open_from n (drop n slots) ≡ open_from n (o ∷ []) ++ open_from (suc n) (drop (suc n) slots) =
+    ap (open_from n) (drop-at slots n o at) ∙ open_from-more n o (drop (suc n) slots) in
+    rw (add-one, e, append_assoc) (ap (λ (l : List (ℕ × ℕ)). old ++ l) (sym split) ∙ h)
 
 zeros : (n k : ℕ) → (let z : ℕ = 0 in get_or (replicate n z) k z ≡ z)
 zeros zero k = refl

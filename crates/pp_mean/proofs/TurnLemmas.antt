@@ -50,11 +50,11 @@ to-sound g c n node taken number i h k = (record { node_in = h; values = i.value
 -- the element that is found stands in the list
 find-is : {X : Type 0} (p : X → Bool) (xs : List X) (x : X) → find p xs ≡ Some x → (i : ℕ) × (slice_get xs i ≡ Some x)
 find-is p [] x e = cc
-find-is {X} p (y ∷ xs) x e = go (p y) e
+find-is {X} p (y ∷ xs) x e = go (λ h. find-is p xs x h) (p y) e
   where
-    go : (b : Bool) → cond b (Some y) (find p xs) ≡ Some x → (i : ℕ) × (slice_get (y ∷ xs) i ≡ Some x)
-    go true h = (zero, h)
-    go false h = (let f : (i : ℕ) × (slice_get xs i ≡ Some x) = find-is p xs x h in (suc f.0, f.1))
+    go : (find p xs ≡ Some x → (i : ℕ) × (slice_get xs i ≡ Some x)) → (b : Bool) → cond b (Some y) (find p xs) ≡ Some x → (i : ℕ) × (slice_get (y ∷ xs) i ≡ Some x)
+    go more true h = (zero, h)
+    go more false h = (let f = more h in (suc f.0, f.1))
 
 peek-is : (peeks : List Peek) (bytes : List ℕ) (p : Peek) → peek_at peeks bytes ≡ Some p → (i : ℕ) × (slice_get peeks i ≡ Some p)
 peek-is peeks [] p e = cc

@@ -211,7 +211,7 @@ pub record Comes (x : Given) (s : Stage) (seen : List ℕ) : Type 0 where
   pub all : s.config.at + length s.rest ≡ length x.bytes
 
 -- at its beginning it has stood nowhere
-pub comes_first : (x : Given) → IsWellFormed x.graph → length x.values ≡ length x.graph.props → Comes x (begin x) (replicate (length x.graph.nodes) 0)
+comes_first : (x : Given) → IsWellFormed x.graph → length x.values ≡ length x.graph.props → Comes x (begin x) (replicate (length x.graph.nodes) 0)
 comes_first x w v = record {
   moves_made = 0;
   there = refl;
@@ -224,13 +224,19 @@ comes_first x w v = record {
   };
   long = length-replicate (length x.graph.nodes) 0;
   is_in = record { node_in = leads-below x.graph None x.graph.entry w.entry; values = v; spans = length-replicate (length x.graph.spans) None };
-  all = refl;
+  all = omega arith;
 }
   where
     zeros : (n k : ℕ) → (let z : ℕ = 0 in get_or (replicate n z) k z ≡ z)
     zeros zero k = refl
     zeros (suc n) zero = refl
     zeros (suc n) (suc k) = zeros n k
+
+pub comes_begin : (x : Given) (s : Stage) (seen : List ℕ) (nodes : List Node) → IsWellFormed x.graph → length x.values ≡ length x.graph.props → s ≡ begin x →
+    seen ≡ replicate (length nodes) 0 → nodes ≡ x.graph.nodes → Comes x s seen
+comes_begin x s seen nodes w v e f n =
+    let marks : seen ≡ replicate (length x.graph.nodes) 0 = f ∙ ap (λ (l : List Node). replicate (length l) 0) n in
+    subst (λ (t : Stage). Comes x t seen) (sym e) (subst (Comes x (begin x)) (sym marks) (comes_first x w v))
 
 -- the chain so far with one stage more
 stands_on : (x : Given) (n : ℕ) (s : Stage) → after (moves x) n (begin x) ≡ Some s → stands x (suc n) ≡ stands x n ++ stand s ∷ []
@@ -323,35 +329,20 @@ module _ (x : Given) (s : Stage) (seen : List ℕ) (node at : ℕ) (kind : Kind)
     };
   }
 
--- the run stands again at a node that is marked
-pub comes_back : (x : Given) (s : Stage) (seen : List ℕ) (node at v : ℕ) (byte : Option ℕ) → Comes x s seen → node ≡ s.config.node → at ≡ s.config.at →
-    v ≡ get_or seen node v → v ≡ at + 1 → byte ≡ slice_get x.bytes at → ComesBack x node byte
-comes_back x s seen node at v byte c n a read e b =
-    let inside : node < length seen = (let i : s.config.node < length x.graph.nodes = c.is_in.node_in in let l : length seen ≡ length x.graph.nodes = c.long in omega arith) in
-    let mark : get_or seen node 0 ≡ s.config.at + 1 = sym (get_or_default_zero seen node v inside) ∙ sym read ∙ e ∙ ap (λ (m : ℕ). m + 1) a in
-    record {
-      moves_made = c.moves_made;
-      stage = s;
-      there = c.there;
-      node_is = sym n;
-      byte_is = ap (slice_get x.bytes) (sym a) ∙ sym b;
-      once = c.once;
-      again = c.marks.marked s.config.node (subst (λ (m : ℕ). get_or seen m 0 ≡ s.config.at + 1) n mark);
-    }
-
 -- an element that was read is no mark
 pub fresh_from : (seen : List ℕ) (node v m : ℕ) → node < length seen → v ≡ get_or seen node v → (v ≡ m → ⊥) → get_or seen node 0 ≡ m → ⊥
 fresh_from seen node v m h e fresh t = fresh (e ∙ get_or_default_zero seen node v h ∙ t)
 
 -- what the loop knows, from what its reads gave
-pub stands_from : (x : Given) (s : Stage) (seen : List ℕ) (node at : ℕ) (nodes : List Node) (n : Node) (v : ℕ) → Comes x s seen → IsWellFormed x.graph → nodes ≡ x.graph.nodes →
-    node ≡ s.config.node → at ≡ s.config.at → v ≡ get_or seen node v → (v ≡ at + 1 → ⊥) → n ≡ get_or nodes node n → Stands x s seen node at n.kind
-stands_from x s seen node at nodes n v come w same node_is at_is read fresh is =
+pub stands_from : (x : Given) (s : Stage) (seen : List ℕ) (node at : ℕ) (nodes : List Node) (d : Node) (v : ℕ) → Comes x s seen → IsWellFormed x.graph → nodes ≡ x.graph.nodes →
+    node ≡ s.config.node → at ≡ s.config.at → v ≡ get_or seen node v → (v ≡ at + 1 → ⊥) → Stands x s seen node at (get_or nodes node d).kind
+stands_from x s seen node at nodes d v come w same node_is at_is read fresh =
     let below : s.config.node < length x.graph.nodes = come.is_in.node_in in
     let long : length seen ≡ length x.graph.nodes = come.long in
     let inside : node < length nodes = rw same (omega arith) in
-    let found : slice_get nodes node ≡ Some n = slice_get-get_or nodes node n inside ∙ ap Some (sym is) in
-    let there : slice_get x.graph.nodes s.config.node ≡ Some n = ap (λ (l : List Node). slice_get l s.config.node) (sym same) ∙ ap (slice_get nodes) (sym node_is) ∙ found in
+    let found : slice_get nodes node ≡ Some (get_or nodes node d) = slice_get-get_or nodes node d inside in
+    let there : slice_get x.graph.nodes s.config.node ≡ Some (get_or nodes node d) =
+    ap (λ (l : List Node). slice_get l s.config.node) (sym same) ∙ ap (slice_get nodes) (sym node_is) ∙ found in
     record {
       come = come;
       well_formed = w;
@@ -359,7 +350,7 @@ stands_from x s seen node at nodes n v come w same node_is at_is read fresh is =
       at_is = at_is;
       fresh = fresh_from seen node v (at + 1) (omega arith) read fresh;
       turn_is = ap (λ (o : Option Node). node_turn o s.config s.rest) there;
-      fits = w.kinds s.config.node n there;
+      fits = w.kinds s.config.node (get_or nodes node d) there;
     }
 
 NoneTwice-split : {X : Type 0} (xs : List X) (x : X) (ys : List X) → NoneTwice (xs ++ x ∷ ys) → Contains xs x → ⊥

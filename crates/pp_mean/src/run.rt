@@ -1,5 +1,5 @@
 // A run at some moment, and its moves.
-ghost use Rattle.std.specs.Prelude.{◌≡◌, ◌<◌, ◌≤◌, ◌∷◌, [], Some, IfOk, OnOk, length, map};
+ghost use Rattle.std.specs.Prelude.{◌≡◌, ◌<◌, ◌≤◌, ◌++◌, ◌∷◌, [], Some, IfOk, OnOk, length, map};
 ghost use Rattle.pp_bytes.specs.Fold.{folded};
 ghost use Rattle.pp_event.specs.declared.item.Item.TheVariants.{Call};
 ghost use Rattle.pp_event.specs.Answers.{by_script};
@@ -303,11 +303,19 @@ fn values_by(graph: &Graph, sets: &[(u32, u64)]) -> Props
 fn open_spans(alloc: Global, spans: &Spans) -> Result<Vec<(u32, u64)>, AllocError>
     ensures { IfOk result (λ slots. slots.items ≡ open_from 0 spans.now) }
 {
-    let mut open: Vec<(u32, u64)> = Vec::new(alloc);
+    let mut found: Vec<(u32, u64)> = Vec::new(alloc);
     for span in 0..spans.len() {
-        if let Some(from) = spans.get(span) {
-            open.push((span, from))?;
-        }
+        push_open(&mut found, span, spans.get(span))?;
     }
-    Ok(open)
+    Ok(found)
+}
+
+// One span more, if it is open.
+fn push_open(found: &mut Vec<(u32, u64)>, span: u32, from: Option<u64>) -> Result<(), AllocError>
+    ensures { OnOk result (found.new.items ≡ found.old.items ++ open_from span (from ∷ [])) }
+{
+    if let Some(from) = from {
+        found.push((span, from))?;
+    }
+    Ok(())
 }

@@ -1,5 +1,5 @@
 // The run of a graph on a whole string.
-ghost use Rattle.std.specs.Prelude.{◌≡◌, ◌<◌, ℕ, Option, IfOk, IfErr, OnOk, length, slice_get};
+ghost use Rattle.std.specs.Prelude.{◌≡◌, ℕ, Option, IfOk, IfErr, OnOk, replicate, slice_get};
 ghost use Rattle.pp_mean.specs.Mean.{SetsFit};
 ghost use Rattle.pp_mean.specs.Whole.{IsRun, ComesBack, IsLoop, by_sets};
 
@@ -61,6 +61,13 @@ fn byte_at(bytes: &[u8], at: usize) -> Option<u8>
     bytes.get(at).copied()
 }
 
+// So many nodes, none marked.
+fn no_marks(alloc: Global, nodes: usize) -> Result<Vec<usize>, AllocError>
+    ensures { IfOk result (λ marks. marks.items ≡ replicate nodes 0) }
+{
+    vec![in alloc; 0usize; nodes]
+}
+
 /// The run of a graph on the whole string, with these values of properties set first, the answers of a script, and so
 /// many pauses passed.
 ///
@@ -80,7 +87,7 @@ pub fn run_whole(
     ensures loops { IfErr result (IsLoop (by_sets graph.now sets.now script.now resumes bytes.now)) }
 {
     let nodes = graph.nodes();
-    let mut seen: Vec<usize> = vec![in alloc; 0usize; nodes.len()]?;
+    let mut seen = no_marks(alloc, nodes.len())?;
     let mut run = Run::begin(alloc, graph, sets, resumes, bytes);
     'run: loop {
         let node = run.node();
