@@ -1,7 +1,6 @@
 -- The keys of a match node and the bytes that are left: how many bytes an edge takes.
-use Rattle.std.proofs.Common.{◌≡◌, ℕ, zero, suc, ◌+◌, ◌≤◌, ◌<◌, List, [], ◌∷◌, Option, Some, None, Bool, true, false, cond, not, refl, sym, ◌∙◌, ap, subst, arith, length, map, min, max, drop, eqb, ltb, zero-le, ◌&&◌, ◌||◌}
-use Rattle.std.specs.Prelude.{slice_get, option_map, nat_lt, if◌then◌else◌, ◌==◌}
-use Rattle.std.specs.List.{list_any}
+use Rattle.std.proofs.Common.{◌≡◌, ℕ, zero, suc, ◌+◌, ◌≤◌, ◌<◌, List, [], ◌∷◌, Option, Some, None, Bool, true, false, cond, not, refl, ◌∙◌, ap, subst, arith, length, map, min, drop, eqb, ltb, zero-le, ◌&&◌, ◌||◌}
+use Rattle.std.specs.Prelude.{slice_get, option_map}
 use Rattle.std.proofs.lemmas.Bool.{eq-eqb, eqb-true, eqb-false, ltb-false}
 use Rattle.pp_graph.specs.declared.node.Key.{Key}
 use Rattle.pp_graph.specs.declared.node.Peek.{Peek}

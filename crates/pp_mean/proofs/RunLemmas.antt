@@ -1,5 +1,5 @@
 -- The moves that the code makes, by the stages that its steps lead to.
-use Rattle.std.proofs.Common.{◌≡◌, ℕ, zero, suc, ◌+◌, ◌<◌, List, [], ◌∷◌, Option, Some, None, refl, sym, ◌∙◌, ap, subst, arith, length, get_or, map, drop, replicate, append-nil, ◌++◌, append_assoc, add-one}
+use Rattle.std.proofs.Common.{◌≡◌, ℕ, zero, suc, ◌+◌, List, [], ◌∷◌, Option, Some, None, refl, sym, ◌∙◌, ap, subst, get_or, map, drop, replicate, append-nil, ◌++◌, append_assoc, add-one}
 use Rattle.std.specs.Prelude.{count_by, slice_get}
 use Rattle.pp_bytes.specs.declared.fold.Fold.{Fold}
 use Rattle.pp_bytes.specs.Fold.{folded}
@@ -10,8 +10,8 @@ use Rattle.pp_graph.specs.declared.node.Kind.{Kind}
 use Rattle.pp_graph.specs.declared.node.Kind.TheVariants.{Match}
 use Rattle.pp_event.specs.declared.item.Item.{Item}
 use Rattle.pp_event.specs.Answers.{is_call_of}
-use Rattle.pp_event.specs.Chain.{Move, On}
-use Rattle.pp_event.specs.Run.{Config, Turn, Rests, Waiting, Stage, RunResult, Oracle, move_by}
+use Rattle.pp_event.specs.Chain.{On}
+use Rattle.pp_event.specs.Run.{Turn, Rests, Waiting, Stage, Oracle, move_by}
 use Rattle.pp_event.specs.Turns.{to}
 use Rattle.pp_mean.specs.declared.whole.End.{End}
 use Rattle.pp_mean.specs.declared.whole.End.TheVariants as end_as

@@ -1,6 +1,6 @@
 -- What a node's turn keeps: the graph's lists, and the place.
-use Rattle.std.proofs.Common.{◌≡◌, ℕ, zero, suc, ◌+◌, ◌*◌, ◌≤◌, ◌<◌, List, [], ◌∷◌, Option, Some, None, Bool, true, false, cond, refl, sym, ◌∙◌, ap, subst, arith, length, map, set, eqb, leb, zero-le, length-set, add-zero}
-use Rattle.std.specs.Prelude.{slice_get, slice_index, find, unwrap_or, if◌then◌else◌}
+use Rattle.std.proofs.Common.{◌≡◌, ℕ, zero, suc, ◌+◌, ◌≤◌, ◌<◌, List, [], ◌∷◌, Option, Some, None, Bool, true, false, cond, refl, sym, ◌∙◌, subst, arith, length, map, eqb, leb, zero-le, length-set, add-zero}
+use Rattle.std.specs.Prelude.{slice_get, slice_index, find, unwrap_or}
 use Rattle.std.proofs.lemmas.Bool.{leb-true}
 use Rattle.std.proofs.lemmas.List.{length-map}
 use Rattle.std.proofs.lemmas.Option.{slice_get_within}
@@ -16,9 +16,9 @@ use Rattle.pp_graph.specs.declared.node.Kind.{Kind}
 use Rattle.pp_graph.specs.declared.node.Kind.TheVariants.{Match, Invoke, Consume, SpanOpen, SpanClose, Pause, Fail}
 use Rattle.pp_graph.specs.Plan.{Plan, Leads, Holds, CodeFits, AreEdges, AreAnswers, FitsIn, IsWellFormed}
 use Rattle.pp_event.specs.Run.{Config, Turn, Goes, Asks, Rests, Stops, Fails}
-use Rattle.pp_event.specs.Turns.{Effect, AsksHost, Answers, Sets, to, effect_turn, consume_turn, consumed, drained, setting}
+use Rattle.pp_event.specs.Turns.{Effect, AsksHost, Answers, Sets, to, effect_turn, consume_turn, consumed, drained}
 use Rattle.pp_event.specs.Codes.{answered, target_or, effect_of}
-use Rattle.pp_mean.specs.Nodes.{common, reach, best, waits, key_turn, peek_turn, other_turn, peek_at, rests_at, match_turn, kind_turn}
+use Rattle.pp_mean.specs.Nodes.{reach, best, waits, key_turn, peek_turn, other_turn, peek_at, rests_at, match_turn, kind_turn}
 use Rattle.pp_mean.specs.Steps.{Uses, UsesKind}
 use Rattle.pp_mean.proofs.MatchLemmas.{best-is, best-le, reach-le, skip-within}
 

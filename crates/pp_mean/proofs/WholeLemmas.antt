@@ -11,20 +11,17 @@ use Rattle.std.proofs.lemmas.Grind.{get_or_default_zero}
 use Rattle.pp_graph.specs.declared.node.Kind.{Kind}
 use Rattle.pp_graph.specs.declared.node.Node.{Node}
 use Rattle.pp_graph.specs.Plan.{Plan, IsWellFormed, FitsIn}
-use Rattle.pp_event.specs.declared.item.Item.{Item}
 use Rattle.pp_event.specs.declared.item.Item.TheVariants.{Call, Pause}
-use Rattle.pp_event.specs.declared.script.ScriptEntry.{ScriptEntry}
-use Rattle.pp_event.specs.Answers.{by_script}
 use Rattle.pp_event.specs.Chain.{Move, On, Over, stages, after}
-use Rattle.pp_event.specs.Run.{Config, Turn, Goes, Asks, Rests, Stops, Fails, Stage, RunResult, Finish, Paused, Oracle, move_by, pass, ends, telling}
+use Rattle.pp_event.specs.Run.{Config, Turn, Goes, Asks, Rests, Stops, Fails, Stage, RunResult, Oracle, move_by, pass, telling}
 use Rattle.pp_event.specs.Loops.{stand, NoneTwice}
 use Rattle.pp_event.proofs.ChainLaws.{after_on, stages_on, over_after, ended_stages}
 use Rattle.pp_mean.specs.Nodes.{graph_turn, node_turn, kind_turn}
-use Rattle.pp_mean.specs.Mean.{SetsFit, with_sets, values_by}
+use Rattle.pp_mean.specs.Mean.{with_sets, values_by}
 use Rattle.pp_mean.specs.declared.whole.End.{End}
 use Rattle.pp_mean.specs.declared.whole.WholeRun.{WholeRun}
 use Rattle.pp_mean.specs.Steps.{Made, ShowsStage, UsesKind}
-use Rattle.pp_mean.specs.Whole.{Given, by_sets, moves, begin, stands, open_from, IsEnd, Shows, EndsOnce, IsRun, ComesBack}
+use Rattle.pp_mean.specs.Whole.{Given, moves, begin, stands, IsEnd, EndsOnce, IsRun, ComesBack}
 use Rattle.pp_mean.proofs.TurnLemmas.{IsIn, Sound, kind-sound, kind-uses, leads-below}
 
 -- seen has at + 1 just at the nodes where the run stood at this place

@@ -1,4 +1,4 @@
-use Rattle.std.proofs.Common.{◌≡◌, ◌+◌, length, min, drop, map, arith}
+use Rattle.std.proofs.Common.{◌≡◌, length, min, drop, map, arith}
 use Rattle.pp_bytes.specs.Fold.{folded}
 use Rattle.pp_mean.specs.Nodes.{common}
 use Rattle.pp_mean.proofs.MatchLemmas.{common-end}

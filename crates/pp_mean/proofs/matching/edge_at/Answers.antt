@@ -1,4 +1,4 @@
-use Rattle.std.proofs.Common.{◌≡◌, ◌≤◌, ◌+◌, ℕ, sym, ◌∙◌, subst, length, map}
+use Rattle.std.proofs.Common.{◌≤◌, ℕ, sym, ◌∙◌, subst, map}
 use Rattle.std.proofs.lemmas.List.{length-map}
 use Rattle.pp_bytes.specs.Fold.{folded}
 use Rattle.pp_mean.proofs.MatchLemmas.{best_edge-le, other-within}

@@ -1,4 +1,4 @@
-use Rattle.std.proofs.Common.{◌≡◌, ◌<◌, ℕ, length, get_or, arith}
+use Rattle.std.proofs.Common.{◌<◌, ℕ, length, arith}
 use Rattle.std.proofs.lemmas.List.Elements.{All-get_or}
 use Rattle.pp_graph.specs.Plan.{Holds}
 use Rattle.pp_mean.proofs.TurnLemmas.{holds-below}

@@ -1,4 +1,4 @@
-use Rattle.std.proofs.Common.{◌≡◌, ◌+◌, Option, Some, None, sym, subst, refl, get_or}
+use Rattle.std.proofs.Common.{Option, subst, get_or}
 use Rattle.pp_event.specs.Answers.{by_script}
 use Rattle.pp_event.specs.Run.{move_by}
 use Rattle.pp_mean.specs.declared.whole.End.{End}

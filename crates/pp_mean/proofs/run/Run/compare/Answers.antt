@@ -1,6 +1,5 @@
-use Rattle.std.proofs.Common.{◌≡◌, sym, ◌∙◌, ap, List, ℕ, subst, map}
+use Rattle.std.proofs.Common.{◌≡◌, ◌∙◌, ap, List, ℕ, subst, map}
 use Rattle.pp_bytes.specs.Fold.{folded}
-use Rattle.pp_event.specs.Run.{Turn}
 use Rattle.pp_mean.specs.Nodes.{match_turn}
 use Rattle.pp_mean.specs.Steps.{edge_turn}
 use Rattle.pp_mean.proofs.RunLemmas.{edge-made, wait-made}
