@@ -239,6 +239,21 @@ comes_begin x s seen nodes w v e f n =
 stands_on : (x : Given) (n : ℕ) (s : Stage) → after (moves x) n (begin x) ≡ Some s → stands x (suc n) ≡ stands x n ++ stand s ∷ []
 stands_on x n s e = ap (map stand) (stages_on (moves x) n (begin x) s e) ∙ map-append stand (stages (moves x) n (begin x)) (s ∷ [])
 
+NoneTwice-split : {X : Type 0} (xs : List X) (x : X) (ys : List X) → NoneTwice (xs ++ x ∷ ys) → Contains xs x → ⊥
+NoneTwice-split [] x ys h c = Contains-none x c
+NoneTwice-split (y ∷ xs) x ys h c = elim (Contains_head y xs x c) [
+  | inl e ↦ h.0 (subst (Contains (xs ++ x ∷ ys)) (sym e) (Contains-append_right xs (x ∷ ys) x (0, omega arith, refl)))
+  | inr b ↦ NoneTwice-split xs x ys h.1 b
+]
+
+-- a run that ended having come to no node twice at one place never comes back: the laws have it too
+pub ends_or_comes_back : (x : Given) (r : RunResult) (node : ℕ) (byte : Option ℕ) → EndsOnce x r → ComesBack x node byte → ⊥
+ends_or_comes_back x r node byte run back =
+    let split = ended_stages (moves x) run.moves_made back.moves_made (begin x) back.stage r run.ended back.there in
+    let all : stands x run.moves_made ≡ stands x back.moves_made ++ stand back.stage ∷ map stand split.0 =
+    ap (map stand) split.1 ∙ map-append stand (stages (moves x) back.moves_made (begin x)) (back.stage ∷ split.0) in
+    NoneTwice-split (stands x back.moves_made) (stand back.stage) (map stand split.0) (subst NoneTwice all run.once) back.again
+
 -- what the code's loop knows at a node that isn't marked
 pub record Stands (x : Given) (s : Stage) (seen : List ℕ) (node at : ℕ) (kind : Kind) : Type 0 where
   pub come : Comes x s seen
@@ -281,8 +296,9 @@ module _ (x : Given) (s : Stage) (seen : List ℕ) (node at : ℕ) (kind : Kind)
   leads d e = turn-leads x.graph x.oracle s d (kind_turn kind s.config s.rest) (kind-sound x.graph kind s.config s.rest h.come.is_in h.fits) e
 
   -- it goes on
-  pub comes_on : (d : Stage) → Made d None (move_by x.oracle s (kind_turn kind s.config s.rest)) → Comes x d (set seen node (at + 1))
-  comes_on d e =
+  pub comes_on : (d : Stage) (o : Option End) → o ≡ None → Made d o (move_by x.oracle s (kind_turn kind s.config s.rest)) → Comes x d (set seen node (at + 1))
+  comes_on d o none m =
+      let e : move_by x.oracle s (kind_turn kind s.config s.rest) ≡ On d = subst (λ (o : Option End). Made d o (move_by x.oracle s (kind_turn kind s.config s.rest))) none m in
       let l = leads d e in
       let later : s.config.at ≤ d.config.at = l.later in
       let place : at ≡ s.config.at = h.at_is in
@@ -297,9 +313,10 @@ module _ (x : Given) (s : Stage) (seen : List ℕ) (node at : ℕ) (kind : Kind)
       }
 
   -- and less is left to do
-  pub falls : (d : Stage) → Made d None (move_by x.oracle s (kind_turn kind s.config s.rest)) →
+  pub falls : (d : Stage) (o : Option End) → o ≡ None → Made d o (move_by x.oracle s (kind_turn kind s.config s.rest)) →
       left (length x.bytes) d.config.at (set seen node (at + 1)) < left (length x.bytes) s.config.at seen
-  falls d e =
+  falls d o none m =
+      let e : move_by x.oracle s (kind_turn kind s.config s.rest) ≡ On d = subst (λ (o : Option End). Made d o (move_by x.oracle s (kind_turn kind s.config s.rest))) none m in
       let l = leads d e in
       let later : s.config.at ≤ d.config.at = l.later in
       let place : at ≡ s.config.at = h.at_is in
@@ -309,22 +326,32 @@ module _ (x : Given) (s : Stage) (seen : List ℕ) (node at : ℕ) (kind : Kind)
       (left_falls (length x.bytes) at d.config.at node seen in_seen h.fresh (omega arith) (omega arith))
 
   -- it ends
-  pub is_run : (d : Stage) (end : End) (w : WholeRun) → Made d (Some end) (move_by x.oracle s (kind_turn kind s.config s.rest)) → ShowsStage d end w → IsRun x w
-  is_run d end w m shows = record {
-    result = record { finish = m.0; last = d };
-    ends = record {
-      moves_made = suc h.come.moves_made;
-      ended = over_after (moves x) h.come.moves_made (begin x) s (record { finish = m.0; last = d }) h.come.there (moved (Over (record { finish = m.0; last = d })) m.1);
-      once = once_more;
-    };
-    shows = record {
-      items = shows.items;
-      end = subst (λ (e : End). IsEnd e d.config.node m.0) (sym shows.end_is) m.2;
-      props = shows.props;
-      at = shows.at;
-      spans = shows.spans;
-    };
-  }
+  pub is_run : (d : Stage) (o : Option End) (end : End) (w : WholeRun) → o ≡ Some end → Made d o (move_by x.oracle s (kind_turn kind s.config s.rest)) → ShowsStage d end w → IsRun x w
+  is_run d o end w some made shows =
+      let m : Made d (Some end) (move_by x.oracle s (kind_turn kind s.config s.rest)) =
+      subst (λ (o : Option End). Made d o (move_by x.oracle s (kind_turn kind s.config s.rest))) some made in
+      record {
+        result = record { finish = m.0; last = d };
+        ends = record {
+          moves_made = suc h.come.moves_made;
+          ended = over_after (moves x) h.come.moves_made (begin x) s (record { finish = m.0; last = d }) h.come.there (moved (Over (record { finish = m.0; last = d })) m.1);
+          once = once_more;
+        };
+        shows = record {
+          items = shows.items;
+          end = subst (λ (e : End). IsEnd e d.config.node m.0) (sym shows.end_is) m.2;
+          props = shows.props;
+          at = shows.at;
+          spans = shows.spans;
+        };
+      }
+
+  -- so it never comes back
+  pub no_loop : (d : Stage) (o : Option End) (end : End) (w : WholeRun) → o ≡ Some end → Made d o (move_by x.oracle s (kind_turn kind s.config s.rest)) → ShowsStage d end w →
+      (n : ℕ) (byte : Option ℕ) → ComesBack x n byte → ⊥
+  no_loop d o end w some made shows n byte back =
+      let run = is_run d o end w some made shows in
+      ends_or_comes_back x run.result n byte run.ends back
 
 -- an element that was read is no mark
 pub fresh_from : (seen : List ℕ) (node v m : ℕ) → node < length seen → v ≡ get_or seen node v → (v ≡ m → ⊥) → get_or seen node 0 ≡ m → ⊥
@@ -349,21 +376,6 @@ stands_from x s seen node at nodes d v come w same node_is at_is read fresh =
       turn_is = ap (λ (o : Option Node). node_turn o s.config s.rest) there;
       fits = w.kinds s.config.node (get_or nodes node d) there;
     }
-
-NoneTwice-split : {X : Type 0} (xs : List X) (x : X) (ys : List X) → NoneTwice (xs ++ x ∷ ys) → Contains xs x → ⊥
-NoneTwice-split [] x ys h c = Contains-none x c
-NoneTwice-split (y ∷ xs) x ys h c = elim (Contains_head y xs x c) [
-  | inl e ↦ h.0 (subst (Contains (xs ++ x ∷ ys)) (sym e) (Contains-append_right xs (x ∷ ys) x (0, omega arith, refl)))
-  | inr b ↦ NoneTwice-split xs x ys h.1 b
-]
-
--- a run that ended having come to no node twice at one place never comes back: the laws have it too
-pub ends_or_comes_back : (x : Given) (r : RunResult) (node : ℕ) (byte : Option ℕ) → EndsOnce x r → ComesBack x node byte → ⊥
-ends_or_comes_back x r node byte run back =
-    let split = ended_stages (moves x) run.moves_made back.moves_made (begin x) back.stage r run.ended back.there in
-    let all : stands x run.moves_made ≡ stands x back.moves_made ++ stand back.stage ∷ map stand split.0 =
-    ap (map stand) split.1 ∙ map-append stand (stages (moves x) back.moves_made (begin x)) (back.stage ∷ split.0) in
-    NoneTwice-split (stands x back.moves_made) (stand back.stage) (map stand split.0) (subst NoneTwice all run.once) back.again
 
 -- sets keep the number of values
 with_sets-length : (sets : List (ℕ × ℕ)) (values : List ℕ) → length (with_sets sets values) ≡ length values
