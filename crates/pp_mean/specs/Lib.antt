@@ -3,6 +3,7 @@ pub mod Mean
 pub mod Loops
 pub mod Plain
 pub mod Whole
+pub mod Steps
 pub use Rattle.pp_event.specs.Chain
 pub use Rattle.pp_event.specs.Run
 pub use Rattle.pp_event.specs.Answers
