@@ -62,13 +62,15 @@ reached_first m node (b ∷ bytes) r = r
 
 module _ (m : Moves) (steady : IsSteady m.turn) where
   -- a turn that takes no byte is a free move, and what it leads to can be come to
-  pub free_on : (c : Config) (rest : List ℕ) (next : ℕ) → Reached m c.node rest → LeadsTo (m.turn c rest) 0 next →
+  pub free_on : (c : Config) (rest : List ℕ) (next : ℕ) → AreBytes rest → Reached m c.node rest → LeadsTo (m.turn c rest) 0 next →
       Reached m next rest × FreeMove m (get_or rest 0 0) c.node next
-  free_on c [] next r l =
+  free_on c [] next h r l =
       let leads : (b : ℕ) → LeadsTo (m.turn c (b ∷ [])) 0 next =
       λ b. keeps_leads 0 0 next (m.turn c []) (m.turn c (b ∷ [])) (steady c [] (b ∷ [])) l in
-      ((λ b h. by_free (r b h) (inl (c, [], refl, leads b))), inl (c, [], refl, leads 0))
-  free_on c (b ∷ bytes) next r l = (by_free r (inl (c, bytes, refl, l)), inl (c, bytes, refl, l))
+      ((λ b p. by_free (r b p) (inl (c, [], h, refl, leads b))), inl (c, [], h, refl, leads 0))
+  free_on c (b ∷ bytes) next h r l =
+      let f : FreeMove m b c.node next = inl (c, bytes, AreBytes-drop 1 (b ∷ bytes) h, refl, l) in
+      (by_free r f, f)
 
   -- so can what a turn that takes bytes leads to
   pub taking_on : (c : Config) (rest : List ℕ) (next k : ℕ) → AreBytes rest → Reached m c.node rest → LeadsTo (m.turn c rest) (suc k) next → suc k ≤ length rest →
@@ -77,15 +79,15 @@ module _ (m : Moves) (steady : IsSteady m.turn) where
   taking_on c (b ∷ bytes) next k h r l n =
       let shorter : length (drop k bytes) ≡ length bytes - k = length-drop k bytes in (
         omega arith,
-        reached_any m next (drop k bytes) (AreBytes-drop (suc k) (b ∷ bytes) h) (λ a p. by_taking p r (k, (c, bytes, refl, l))),
+        reached_any m next (drop k bytes) (AreBytes-drop (suc k) (b ∷ bytes) h) (λ a p. by_taking p r (k, (c, bytes, AreBytes-drop 1 (b ∷ bytes) h, refl, l))),
       )
 
 module _ (m : Moves) (rank : ℕ → ℕ → ℕ) (table : IsRankTable m rank) (steady : IsSteady m.turn) (oracle : Oracle) (bounded : (items : List Item) (code : ℕ) → oracle items code < 2 ^ 32) where
   -- a turn that takes no byte leads to a lower rank
-  falls_on : (c : Config) (rest : List ℕ) (next : ℕ) → Reached m c.node rest → LeadsTo (m.turn c rest) 0 next →
+  falls_on : (c : Config) (rest : List ℕ) (next : ℕ) → AreBytes rest → Reached m c.node rest → LeadsTo (m.turn c rest) 0 next →
       Reached m next rest × (rank (get_or rest 0 0) next < rank (get_or rest 0 0) c.node)
-  falls_on c rest next r l =
-      let f = free_on m steady c rest next r l in
+  falls_on c rest next h r l =
+      let f = free_on m steady c rest next h r l in
       (f.0, table.falls (get_or rest 0 0) c.node next (reached_first m c.node rest r) f.1)
 
   -- a stage from which the run ends, in fewer bytes or at a lower rank
@@ -105,7 +107,7 @@ module _ (m : Moves) (rank : ℕ → ℕ → ℕ) (table : IsRankTable m rank) (
   goes_on : (s : Stage) (d : Config) (k : ℕ) (items : List Item) → AreBytes s.rest → Reached m s.config.node s.rest → m.turn s.config s.rest ≡ Goes d k items → k ≤ length s.rest →
       Progress s (move_by oracle s (Goes d k items))
   goes_on s d zero items h r e n =
-      let f = falls_on s.config s.rest d.node r (subst (λ (t : Turn). LeadsTo t 0 d.node) (sym e) (refl, refl)) in
+      let f = falls_on s.config s.rest d.node h r (subst (λ (t : Turn). LeadsTo t 0 d.node) (sym e) (refl, refl)) in
       (h, f.0, inr (refl, f.1))
   goes_on s d (suc k) items h r e n =
       let f = taking_on m steady s.config s.rest d.node k h r (subst (λ (t : Turn). LeadsTo t (suc k) d.node) (sym e) (refl, refl)) n in
@@ -115,11 +117,11 @@ module _ (m : Moves) (rank : ℕ → ℕ → ℕ) (table : IsRankTable m rank) (
       Progress s (move_by oracle s t)
   progress_by s (Goes d k items) h r e p = goes_on s d k items h r e p.0
   progress_by s (Asks code value next) h r e p =
-      let f = falls_on s.config s.rest (next (oracle s.items code)).node r (subst (λ (t : Turn). LeadsTo t 0 (next (oracle s.items code)).node) (sym e) (refl, oracle s.items code, bounded s.items code, refl)) in
+      let f = falls_on s.config s.rest (next (oracle s.items code)).node h r (subst (λ (t : Turn). LeadsTo t 0 (next (oracle s.items code)).node) (sym e) (refl, oracle s.items code, bounded s.items code, refl)) in
       (h, f.0, inr (refl, f.1))
   progress_by s (Rests d) h r e p = tt
   progress_by s (Stops code d) h r e p =
-      pass_on s code d s.resumes h (falls_on s.config s.rest d.node r (subst (λ (t : Turn). LeadsTo t 0 d.node) (sym e) (refl, refl)))
+      pass_on s code d s.resumes h (falls_on s.config s.rest d.node h r (subst (λ (t : Turn). LeadsTo t 0 d.node) (sym e) (refl, refl)))
   progress_by s (Fails code) h r e p = tt
 
   pub progress : (s : Stage) → AreBytes s.rest → Reached m s.config.node s.rest → Progress s (move m.turn oracle s)
@@ -181,7 +183,7 @@ module _ (m : Moves) (free : LoopFree m) (steady : IsSteady m.turn) (placed : Is
   later_free : (s : Stage) (d : Config) (items : List Item) (n : ℕ) → d.at ≡ s.config.at → AreBytes s.rest → Reached m s.config.node s.rest → LeadsTo (m.turn s.config s.rest) 0 d.node →
       Later s (record { config = d; rest = s.rest; items = items; resumes = n })
   later_free s d items n p h r l =
-      let f = free_on m steady s.config s.rest d.node r l in
+      let f = free_on m steady s.config s.rest d.node h r l in
       (h, f.0, inr (p, refl, zero, onward f.1 stay))
 
   later_pass : (s : Stage) (code : ℕ) (d : Config) (n : ℕ) → d.at ≡ s.config.at → AreBytes s.rest → Reached m s.config.node s.rest → LeadsTo (m.turn s.config s.rest) 0 d.node → LaterMove s (pass s code d n)

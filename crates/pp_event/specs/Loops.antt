@@ -11,10 +11,14 @@ LeadsTo (Rests d) taken node = ⊥
 LeadsTo (Stops code d) taken node = (taken ≡ 0) × (d.node ≡ node)
 LeadsTo (Fails code) taken node = ⊥
 
--- on some string with the byte b at the place, and for some values, a node leads to another one, taking so many bytes
+-- a list of bytes
+abbrev pub AreBytes : List ℕ → Type 0
+AreBytes bytes = (i : ℕ) → slice_index bytes i < 256
+
+-- on some string of bytes with the byte b at the place, and for some values, a node leads to another one, taking so many bytes
 abbrev pub Leads : Machine → ℕ → ℕ → ℕ → ℕ → Type 0
 Leads turn node b taken next =
-    (c : Config) × (bytes : List ℕ) × (c.node ≡ node) × LeadsTo (turn c (b ∷ bytes)) taken next
+    (c : Config) × (bytes : List ℕ) × AreBytes bytes × (c.node ≡ node) × LeadsTo (turn c (b ∷ bytes)) taken next
 
 -- a machine, its entry, and the edges that count as free moves whatever a code answers
 pub record Moves : Type 1 where
@@ -59,10 +63,6 @@ pub record IsGap (m : Moves) (gap : ℕ) : Type 0 where
 pub record IsRankTable (m : Moves) (rank : ℕ → ℕ → ℕ) : Type 0 where
   pub falls : (b node next : ℕ) → Reaches m b node → FreeMove m b node next → rank b next < rank b node
   pub tight : (b node : ℕ) → Reaches m b node → 0 < rank b node → (next : ℕ) × FreeMove m b node next × (rank b node ≡ suc (rank b next))
-
--- a list of bytes
-abbrev pub AreBytes : List ℕ → Type 0
-AreBytes bytes = (i : ℕ) → slice_index bytes i < 256
 
 -- the node can be come to with these bytes left
 abbrev pub Reached : Moves → ℕ → List ℕ → Type 0
