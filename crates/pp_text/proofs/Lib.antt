@@ -43,3 +43,4 @@ pub mod OneKeyLemmas
 pub mod OneStatementLemmas
 pub mod OneTextLemmas
 pub mod OneReadingLemmas
+pub mod SomeReadingLemmas

@@ -46,7 +46,7 @@ row_same : (line : ℕ) (row : List ℕ) (a : Option Told) (o p : RowOutcome) �
 row_same line row a (LeadsTo after) p w v = row_leads_same line row a w.first w.others after w.row_is w.lead p v
 row_same line row a (EndsWith told) p w v = row_ends_same line row a w.first w.others w.statements told w.row_is w.last w.lead p v
 
-row_only : (line : ℕ) (row : List ℕ) (a : Option Told) (o : RowOutcome) → RowIs line row a o → IsOnly (RowIs line row a) o
+pub row_only : (line : ℕ) (row : List ℕ) (a : Option Told) (o : RowOutcome) → RowIs line row a o → IsOnly (RowIs line row a) o
 row_only line row a o w = (w, λ p v. row_same line row a o p w v)
 
 -- of fewer bytes than so many, nothing comes beside what comes

@@ -3,7 +3,7 @@ ghost use Rattle.std.specs.Prelude.{◌≡◌, ℕ, List};
 ghost use Rattle.pp_rules.specs.declared.rules.GraphRule.{GraphRule};
 ghost use Rattle.pp_rules.specs.Rules.{KeepsRules};
 ghost use Rattle.pp_text.specs.Text.{Told, BeginWithText, IsWrongAt, IsTooLong};
-ghost use Rattle.pp_text.specs.Outcome.{Breaks};
+ghost use Rattle.pp_text.specs.Outcome.{Breaks, HasReading};
 
 /// Bytes have at most one reading as a graph text: one text begins them, or one line is wrong, or a line is too long, and
 /// the calls of the text keep the rules or break one first.
@@ -17,4 +17,9 @@ pub fn one_reading()
     ensures fault { (bytes : List ℕ) (line other : ℕ) (rule broken : GraphRule) → Breaks bytes line rule → Breaks bytes other broken → (line ≡ other) × (rule ≡ broken) }
     ensures fault_or_graph { (bytes : List ℕ) (line : ℕ) (rule : GraphRule) (told : Told) (last : ℕ) (rest : List ℕ) →
         Breaks bytes line rule → BeginWithText bytes told last rest → ¬ (KeepsRules told.calls) }
+{}
+
+/// And at least one: that they have none is absurd.
+pub fn some_reading()
+    ensures { (bytes : List ℕ) → ¬ (¬ (HasReading bytes)) }
 {}

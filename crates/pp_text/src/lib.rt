@@ -20,7 +20,7 @@ mod word;
 
 pub use back::read_back;
 pub use fault::TextFault;
-pub use laws::one_reading;
+pub use laws::{one_reading, some_reading};
 pub use printing::print_graph;
 pub use reading::read_graph;
 pub use telling::told_again;
