@@ -123,7 +123,7 @@ come_within : (n : ℕ) → AllCome n → (room line : ℕ) (bytes : List ℕ) (
     length bytes ≤ room + length (rest_of here) → bytes ≢ [] → Come room line bytes a
 come_within n fewer room line bytes a (Whole row rest) few begins within some none =
     either ((after : Option Told) × RowLeads line row a after) (λ leads.
-        either ((told : Told) × RowEnds line row a told) (λ ends. come_whole n fewer room line bytes a row rest few begins within some leads ends none))
+    either ((told : Told) × RowEnds line row a told) (λ ends. come_whole n fewer room line bytes a row rest few begins within some leads ends none))
 come_within n fewer room line bytes a (Open row) few begins within some none =
     either ((told : Told) × RowEnds line row a told) (λ ends. come_open room line bytes a row begins within some ends none)
 
@@ -140,7 +140,7 @@ come_at n fewer room zero bytes a first few none = omega arith
 come_at n fewer room (suc last) [] a first few none = none (Endless last, (empty_only room (suc last) last a refl).0)
 come_at n fewer room (suc last) (b ∷ bytes) a first few none =
     line_some (b ∷ bytes) (λ here.
-        come_by n fewer room (suc last) (b ∷ bytes) a here.0 few here.1 (λ e. absurd cc) (cases_lt (room + length (rest_of here.0)) (length (b ∷ bytes))) none)
+    come_by n fewer room (suc last) (b ∷ bytes) a here.0 few here.1 (λ e. absurd cc) (cases_lt (room + length (rest_of here.0)) (length (b ∷ bytes))) none)
 
 all_come : (n : ℕ) → AllCome n
 all_come zero room line bytes a first few none = omega arith
@@ -162,25 +162,39 @@ FailsThere calls place = (rule : GraphRule) × (order rule ≡ place) × (call :
 no_fault : (calls : List BuilderCall) → ¬ ((rule : GraphRule) × (call : ℕ) × IsFirstFault calls rule call) → KeepsRules calls
 no_fault calls no_first rule call fails =
     none_below (FailsThere calls) (λ first.
-        none_below (FailsAt first.1.0 calls) (λ least. no_first (first.1.0, least.0, record {
-          fails = least.1;
-          none_before = least.2;
-          earlier_rules = λ earlier above i broken. first.2 (order earlier) (subst (λ (place : ℕ). order earlier < place) first.1.1 above) (earlier, refl, i, broken);
-        })) (suc first.1.2) first.1.2 (omega arith) first.1.3) (suc (order rule)) (order rule) (omega arith) (rule, refl, call, fails)
+    none_below (FailsAt first.1.0 calls) (λ least. no_first (
+      first.1.0,
+      least.0,
+      record {
+        fails = least.1;
+        none_before = least.2;
+        earlier_rules = λ earlier above i broken. first.2 (order earlier) (subst (λ (place : ℕ). order earlier < place) first.1.1 above) (earlier, refl, i, broken);
+      },
+    )) (suc first.1.2) first.1.2 (omega arith) first.1.3) (suc (order rule)) (order rule) (omega arith) (rule, refl, call, fails)
 
 -- what lines come to is a reading
 reading_by : (bytes : List ℕ) (v : Verdict) → LinesAre limit 1 None bytes v → ¬ (¬ (HasReading bytes))
 reading_by bytes (Ended told last rest) text none =
-    none (inl (told, last, rest, text, no_fault told.calls (λ fault.
-        none (inr (inl (line_at told last fault.1, fault.0, record {
-          told = told;
-          last = last;
-          rest = rest;
-          call = fault.1;
-          text = text;
-          first = fault.2;
-          line_is = refl;
-        }))))))
+    none (inl (
+      told,
+      last,
+      rest,
+      text,
+      no_fault told.calls (λ fault.
+          none (inr (inl (
+            line_at told last fault.1,
+            fault.0,
+            record {
+              told = told;
+              last = last;
+              rest = rest;
+              call = fault.1;
+              text = text;
+              first = fault.2;
+              line_is = refl;
+            },
+          )))),
+    ))
 reading_by bytes (WrongAt wrong) w none = none (inr (inr (inl (wrong, inl w))))
 reading_by bytes (Endless last) w none = none (inr (inr (inl (max 1 last, inr (last, w, refl)))))
 reading_by bytes Long w none = none (inr (inr (inr w)))

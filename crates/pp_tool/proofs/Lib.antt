@@ -10,6 +10,7 @@ pub mod PieceLemmas
 pub mod PrintLaws
 mod Rows
 pub mod ReadLemmas
+pub mod SomeText
 pub mod SomeVerdict
 pub mod StatusLemmas
 pub mod TextLemmas

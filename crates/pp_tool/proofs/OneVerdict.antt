@@ -1,7 +1,7 @@
 -- At most one outcome of stages comes of at most one of each.
 use Rattle.std.proofs.Common.{ℕ, inl, inr, List, [], refl, sym, ap, ap₂, subst, ◌∙◌}
 use Rattle.pp_event.specs.Run.{move}
-use Rattle.pp_event.specs.Answers.{by_list}
+use Rattle.pp_event.specs.Answers.{by_script}
 use Rattle.pp_mean.specs.Nodes.{graph_turn}
 use Rattle.pp_event.proofs.ChainLaws.{one_result}
 use Rattle.pp_tool.specs.declared.refusal.Refusal.{Refusal}
@@ -42,7 +42,7 @@ capture_one begun (Refuses why before) (Refuses other after) h k = ap₂ Refuses
 
 reports_one : (begun : Begun) → AtMostOne (Reports begun)
 reports_one begun (Gives x) (Gives y) h k =
-    ap Gives (h.3 ∙ ap (report_of begun.0) (one_result (move (graph_turn begun.0) (by_list [])) _ h.0 k.0 h.1 k.1) ∙ sym k.3)
+    ap Gives (h.3 ∙ ap (report_of begun.0) (one_result (move (graph_turn begun.0) (by_script [])) _ h.0 k.0 h.1 k.1) ∙ sym k.3)
 reports_one begun (Gives x) (Refuses why before) h k = absurd (h.2 k.0)
 reports_one begun (Refuses why before) (Gives y) h k = absurd (k.2 h.0)
 reports_one begun (Refuses why before) (Refuses other after) h k = ap₂ Refuses (h.1 ∙ sym k.1) (h.2 ∙ sym k.2)

@@ -6,7 +6,7 @@ use Rattle.std.specs.Result.{IsErrAnd}
 use Rattle.pp_graph.specs.Plan.{Plan}
 use Rattle.pp_mean.specs.Plain.{IsPlain}
 use Rattle.pp_event.specs.Run.{RunResult, move}
-use Rattle.pp_event.specs.Answers.{by_list}
+use Rattle.pp_event.specs.Answers.{by_script}
 use Rattle.pp_mean.specs.Nodes.{graph_turn}
 use Rattle.pp_event.proofs.ChainLaws.{one_result}
 use Rattle.pp_tool.specs.declared.refusal.CheckReason.TheVariants as check
@@ -40,7 +40,7 @@ capture_none g rest none = ((none, refl, refl), λ other h. none_only g rest oth
 
 run_only : (g : Plan) (string lines : List ℕ) (r : RunResult) (other : Verdict) → RunsTo g string r → ¬ (RunsInLoop g string) → lines ≡ report_of g r → Reports (g, string) other → other ≡ Gives lines
 run_only g string lines r (Gives written) run no_loop is h =
-    ap Gives (h.3 ∙ ap (report_of g) (one_result (move (graph_turn g) (by_list [])) _ h.0 r h.1 run) ∙ sym is)
+    ap Gives (h.3 ∙ ap (report_of g) (one_result (move (graph_turn g) (by_script [])) _ h.0 r h.1 run) ∙ sym is)
 run_only g string lines r (Refuses why before) run no_loop is h = absurd (no_loop h.0)
 
 pub run_found : (g : Plan) (string lines : List ℕ) (r : RunResult) → RunsTo g string r → ¬ (RunsInLoop g string) → lines ≡ report_of g r → IsOnly (Reports (g, string)) (Gives lines)

@@ -3,10 +3,10 @@
 use Rattle.std.specs.Prelude.{◌≡◌, ℕ, ◌≤◌, List, [], Option, length}
 use Rattle.pp_graph.specs.Plan.{Plan}
 use Rattle.pp_event.specs.Run.{RunResult}
-use Rattle.pp_event.specs.Answers.{by_list}
-use Rattle.pp_mean.specs.Mean.{Means}
+use Rattle.pp_event.specs.Answers.{by_script}
+use Rattle.pp_mean.specs.Mean.{Means, values_by}
 use Rattle.pp_mean.specs.Plain.{IsPlain}
-use Rattle.pp_mean.specs.Whole.{ComesBack}
+use Rattle.pp_mean.specs.Whole.{Given, by_sets, ComesBack}
 use Rattle.pp_tool.specs.declared.refusal.CheckReason.TheVariants as check
 use Rattle.pp_tool.specs.declared.refusal.Refusal.TheVariants as refusal
 use Rattle.pp_tool.specs.Verdict.{Outcome, Gives, Refuses, Verdict, Then, Test}
@@ -18,13 +18,17 @@ use Rattle.pp_tool.specs.Report.{report_of}
 abbrev pub capture_limit : ℕ
 capture_limit = 262144
 
--- the run of the graph on the whole string has this result
+-- the run of the graph on the whole string has this result, with no sets, no answers and no resumes
 abbrev pub RunsTo : Plan → List ℕ → RunResult → Type 0
-RunsTo g string r = Means g [] string (by_list []) 0 r
+RunsTo g string r = Means g (values_by g []) string (by_script []) 0 r
+
+-- what this run is given
+abbrev pub run_of : Plan → List ℕ → Given
+run_of g string = by_sets g [] [] 0 string
 
 -- it comes to a node twice at one place
 abbrev pub RunsInLoop : Plan → List ℕ → Type 0
-RunsInLoop g string = (node : ℕ) × (byte : Option ℕ) × ComesBack g string node byte
+RunsInLoop g string = (node : ℕ) × (byte : Option ℕ) × ComesBack (run_of g string) node byte
 
 -- the graph is plain
 abbrev pub HasPlain : Begun → Type 0

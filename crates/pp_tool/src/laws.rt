@@ -62,8 +62,10 @@ pub fn one_verdict()
     ensures print { (bytes : List ℕ) → AtMostOne (Prints bytes) }
 {}
 
-/// Where a text has at least one reading, each command has at least one verdict: that it has none is absurd.
+/// And at least one of each: that it has none is absurd.
 pub fn some_verdict()
-    ensures trace { (bytes : List ℕ) → AtLeastOne (ReadsText bytes) → AtLeastOne (Traces bytes) }
-    ensures print { (bytes : List ℕ) → AtLeastOne (ReadsTextAlone bytes) → AtLeastOne (Prints bytes) }
+    ensures text { (bytes : List ℕ) → AtLeastOne (ReadsText bytes) }
+    ensures text_alone { (bytes : List ℕ) → AtLeastOne (ReadsTextAlone bytes) }
+    ensures trace { (bytes : List ℕ) → AtLeastOne (Traces bytes) }
+    ensures print { (bytes : List ℕ) → AtLeastOne (Prints bytes) }
 {}

@@ -1,10 +1,11 @@
 // The command `trace`.
-ghost use Rattle.std.specs.Prelude.{◌≡◌, ◌≤◌, List, ℕ, Some, [], length, OnOk, IfErr};
+ghost use Rattle.std.specs.Prelude.{◌≡◌, ◌≤◌, List, ℕ, Option, Some, [], length, OnOk, IfOk, IfErr};
 ghost use Rattle.pp_tool.specs.Verdict.{Answers};
 ghost use Rattle.pp_tool.specs.Capture.{IsCapture, joined};
-ghost use Rattle.pp_tool.specs.Trace.{Traces, IsTraced, OnShort, RunsInLoop};
+ghost use Rattle.pp_tool.specs.Trace.{Traces, IsTraced, OnShort, RunsInLoop, run_of};
 ghost use Rattle.pp_tool.specs.steps.Stops.{StopsReading, IsQuiet, IsNoRefusal};
 ghost use Rattle.pp_mean.specs.Plain.{IsPlain};
+ghost use Rattle.pp_mean.specs.Whole.{IsRun, ComesBack, IsLoop};
 
 use crate::capture::{CaptureFault, read_capture};
 use crate::input::take_rest;
@@ -13,7 +14,8 @@ use crate::report::report;
 use crate::stop::Stop;
 use crate::text::take_text;
 use pp_graph::Graph;
-use pp_mean::{MeanFault, is_plain, run_whole};
+use pp_event::Script;
+use pp_mean::{MeanFault, WholeRun, is_plain, run_whole};
 use pp_outside::Source;
 use std::alloc::Global;
 
@@ -32,6 +34,16 @@ pub(crate) fn trace<S: Source>(alloc: Global, input: &mut S) -> Result<Vec<u8>, 
     report_on(alloc, &graph, &rest)
 }
 
+// The run of the graph on a connection's whole string.
+fn run_on(alloc: Global, graph: &Graph, string: &[u8]) -> Result<WholeRun, MeanFault>
+    ensures run { IfOk result (IsRun (run_of graph.now string.now)) }
+    ensures no_loop { OnOk result ((node : ℕ) (byte : Option ℕ) → ¬ (ComesBack (run_of graph.now string.now) node byte)) }
+    ensures loops { IfErr result (IsLoop (run_of graph.now string.now)) }
+{
+    let script = Script::new(alloc, &[])?;
+    run_whole(alloc, graph, &[], &script, 0, string)
+}
+
 // The report of the graph's run on the capture that the rest is.
 fn report_on(alloc: Global, graph: &Graph, rest: &[u8]) -> Result<Vec<u8>, Stop>
     requires plain { IsPlain graph.now }
@@ -44,7 +56,7 @@ fn report_on(alloc: Global, graph: &Graph, rest: &[u8]) -> Result<Vec<u8>, Stop>
         Err(CaptureFault::Refused) => return Err(Stop::Refused(Refusal::Capture)),
         Err(CaptureFault::NoMemory) => return Err(Stop::NoMemory),
     };
-    let run = match run_whole(alloc, graph, &string) {
+    let run = match run_on(alloc, graph, &string) {
         Ok(run) => run,
         Err(MeanFault::Loop { .. }) => {
             return Err(Stop::Refused(Refusal::Check(CheckReason::Loops)));
