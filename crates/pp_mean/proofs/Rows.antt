@@ -19,7 +19,7 @@ use Rattle.pp_event.specs.declared.script.ScriptTo.TheVariants as script_to
 use Rattle.std.specs.Prelude.{slice_get}
 use Rattle.pp_event.specs.Run.{Config, Finish, Waiting, Paused, Failed, RunResult, start}
 use Rattle.pp_event.specs.Answers.{by_list, by_script}
-use Rattle.pp_event.specs.Loops.{Moves, FreeMove, FreeWay, LeadsTo, NoneTwice, at_entry, stay, onward}
+use Rattle.pp_event.specs.Loops.{AreBytes, Moves, FreeMove, FreeWay, LeadsTo, NoneTwice, at_entry, stay, onward}
 use Rattle.pp_event.proofs.OnceLemmas.{Contains_one, Contains_nothing}
 use Rattle.pp_mean.specs.Loops.{graph_moves, IsLoopFree}
 use Rattle.pp_mean.specs.Nodes.{node_turn}
@@ -431,11 +431,14 @@ back_at_the_end = record { moves_made = 2; stage = start (entry_with to_and_fro 
 abbrev at_node : ℕ → Config
 at_node n = record { node = n; at = 0; carried = 0; values = []; spans = [] }
 
+no_bytes : AreBytes []
+no_bytes i = omega arith
+
 -- it has a loop
 has_loop : IsLoopFree to_and_fro → ⊥
 has_loop free =
     free 97 0 1 (at_entry (omega arith))
-    (onward {next = 1} (inl (at_node 0, [], refl, (refl, refl))) (onward {next = 0} (inl (at_node 1, [], refl, (refl, refl))) stay))
+    (onward {next = 1} (inl (at_node 0, [], no_bytes, refl, (refl, refl))) (onward {next = 0} (inl (at_node 1, [], no_bytes, refl, (refl, refl))) stay))
 
 -- an answer's edge counts, also where the code never answers so
 abbrev edge_back : Plan
@@ -453,14 +456,14 @@ rises m rise {b} {node} (onward {next = next} {end = end} {n = n} f w) =
     omega arith
 
 goes_later : (b node next : ℕ) → FreeMove (graph_moves goes_at_once) b node next → node < next
-goes_later b zero next (inl (c, bytes, e, l)) =
+goes_later b zero next (inl (c, bytes, are, e, l)) =
     let leads : LeadsTo (node_turn (slice_get goes_at_once.nodes 0) c (b ∷ bytes)) 0 next =
     subst (λ (n : ℕ). LeadsTo (node_turn (slice_get goes_at_once.nodes n) c (b ∷ bytes)) 0 next) e l in
     let one : 1 ≡ next = leads.1 in
     omega (arith, one)
-goes_later b (suc zero) next (inl (c, bytes, e, l)) =
+goes_later b (suc zero) next (inl (c, bytes, are, e, l)) =
     absurd (subst (λ (n : ℕ). LeadsTo (node_turn (slice_get goes_at_once.nodes n) c (b ∷ bytes)) 0 next) e l)
-goes_later b (suc (suc node)) next (inl (c, bytes, e, l)) =
+goes_later b (suc (suc node)) next (inl (c, bytes, are, e, l)) =
     absurd (subst (λ (n : ℕ). LeadsTo (node_turn (slice_get goes_at_once.nodes n) c (b ∷ bytes)) 0 next) e l)
 goes_later b zero next (inr e) = absurd e
 goes_later b (suc zero) next (inr e) = absurd e

@@ -1,5 +1,5 @@
 -- The loop of `run_whole`: the run so far, and the nodes that it has stood at.
-use Rattle.std.proofs.Common.{◌⊎◌, subst, ◌≡◌, ℕ, zero, suc, ◌+◌, ◌-◌, ◌*◌, ◌≤◌, ◌<◌, List, [], ◌∷◌, ◌++◌, Option, Some, None, Bool, true, false, cond, refl, sym, ◌∙◌, ap, arith, length, get_or, set, drop, zero-le, eqb, map, length-set, length-drop, inl, inr, replicate}
+use Rattle.std.proofs.Common.{subst, ◌≡◌, ℕ, zero, suc, ◌+◌, ◌-◌, ◌*◌, ◌≤◌, ◌<◌, List, [], ◌∷◌, ◌++◌, Option, Some, None, Bool, true, false, cond, refl, sym, ◌∙◌, ap, arith, length, get_or, set, drop, zero-le, eqb, map, length-set, length-drop, inl, inr, replicate}
 use Rattle.std.specs.Prelude.{slice_get}
 use Rattle.std.specs.List.{Contains}
 use Rattle.std.proofs.lemmas.List.{get_or-set_same, get_or-set_other, map-append, length-replicate}
@@ -15,13 +15,15 @@ use Rattle.pp_event.specs.declared.item.Item.TheVariants.{Call, Pause}
 use Rattle.pp_event.specs.Chain.{Move, On, Over, stages, after}
 use Rattle.pp_event.specs.Run.{Config, Turn, Goes, Asks, Rests, Stops, Fails, Stage, RunResult, Oracle, move_by, pass, telling}
 use Rattle.pp_event.specs.Loops.{stand, NoneTwice}
-use Rattle.pp_event.proofs.ChainLaws.{after_on, stages_on, over_after, ended_stages}
+use Rattle.pp_event.proofs.ChainLaws.{after_on, stages_on, over_after}
+use Rattle.pp_event.proofs.OnceLemmas.{Contains_nothing, Contains_one, Contains_here, NoneTwice_more}
 use Rattle.pp_mean.specs.Nodes.{graph_turn, node_turn, kind_turn}
 use Rattle.pp_mean.specs.Mean.{with_sets, values_by}
 use Rattle.pp_mean.specs.declared.whole.End.{End}
 use Rattle.pp_mean.specs.declared.whole.WholeRun.{WholeRun}
 use Rattle.pp_mean.specs.Steps.{Made, ShowsStage, UsesKind}
-use Rattle.pp_mean.specs.Whole.{Given, moves, begin, stands, IsEnd, EndsOnce, IsRun, ComesBack}
+use Rattle.pp_mean.specs.Whole.{Given, moves, begin, stands, IsEnd, IsRun, ComesBack}
+use Rattle.pp_mean.proofs.ReturnLaws.{not_both}
 use Rattle.pp_mean.proofs.TurnLemmas.{IsIn, Sound, kind-sound, kind-uses, leads-below}
 
 -- seen has at + 1 just at the nodes where the run stood at this place
@@ -31,39 +33,6 @@ pub record Marks (seen : List ℕ) (met : List (ℕ × ℕ)) (at : ℕ) : Type 0
   pub low : (k : ℕ) → get_or seen k 0 ≤ at + 1
   pub behind : (k place : ℕ) → Contains met (k, place) → place ≤ at
 
-Contains-one : {X : Type 0} (x y : X) → Contains (x ∷ []) y → y ≡ x
-Contains-one x y c = at c.0 c.1 c.2
-  where
-    at : (k : ℕ) → k < 1 → get_or (x ∷ []) k y ≡ y → y ≡ x
-    at zero h e = sym e
-    at (suc k) h e = absurd (omega arith)
-
-Contains-last : {X : Type 0} (xs : List X) (x : X) → Contains (xs ++ x ∷ []) x
-Contains-last xs x = Contains-append_right xs (x ∷ []) x (0, omega arith, refl)
-
-NoneTwice-one_more : {X : Type 0} (xs : List X) (x : X) → NoneTwice xs → (Contains xs x → ⊥) → NoneTwice (xs ++ x ∷ [])
-NoneTwice-one_more [] x h fresh = ((λ c. absurd (at c.0 c.1)), tt)
-  where
-    at : (k : ℕ) → k < 0 → ⊥
-    at k h = absurd (omega arith)
-NoneTwice-one_more (y ∷ xs) x h fresh = (
-  (λ c. elim (Contains-append_cases xs (x ∷ []) y c) [ inl a ↦ h.0 a | inr b ↦ fresh (0, omega arith, Contains-one x y b) ]),
-  NoneTwice-one_more xs x h.1 (λ c. fresh (suc c.0, omega arith, c.2)),
-)
-
-Contains_head : {X : Type 0} (x : X) (xs : List X) (y : X) → Contains (x ∷ xs) y → (x ≡ y) ⊎ Contains xs y
-Contains_head x xs y c = at c.0 c.1 c.2
-  where
-    at : (k : ℕ) → k < length (x ∷ xs) → get_or (x ∷ xs) k y ≡ y → (x ≡ y) ⊎ Contains xs y
-    at zero h e = inl e
-    at (suc k) h e = inr (k, omega arith, e)
-
-pub Contains-none : {X : Type 0} (x : X) → Contains [] x → ⊥
-Contains-none x c = at c.0 c.1
-  where
-    at : (k : ℕ) → k < 0 → ⊥
-    at k h = absurd (omega arith)
-
 -- the run stood at a node
 marks_stood : (seen : List ℕ) (met : List (ℕ × ℕ)) (node at : ℕ) → Marks seen met at → node < length seen →
     Marks (set seen node (at + 1)) (met ++ (node, at) ∷ []) at
@@ -72,7 +41,7 @@ marks_stood seen met node at m h = record {
   met_marked = λ k h c. met_marked k h c (eqb k node) refl;
   low = λ k. low k (eqb k node) refl;
   behind = λ k place c. elim (Contains-append_cases met ((node, at) ∷ []) (k, place) c)
-      [ inl a ↦ m.behind k place a | inr b ↦ last_place k place (Contains-one (node, at) (k, place) b) ];
+      [ inl a ↦ m.behind k place a | inr b ↦ last_place k place (sym (Contains_one (node, at) (k, place) b)) ];
 }
   where
     here : get_or (set seen node (at + 1)) node 0 ≡ at + 1
@@ -82,7 +51,7 @@ marks_stood seen met node at m h = record {
     there k e = get_or-set_other seen node k (at + 1) 0 (eqb-false k node e)
 
     marked : (k : ℕ) → get_or (set seen node (at + 1)) k 0 ≡ at + 1 → (b : Bool) → eqb k node ≡ b → Contains (met ++ (node, at) ∷ []) (k, at)
-    marked k e true t = subst (λ (x : ℕ). Contains (met ++ (node, at) ∷ []) (x, at)) (sym (eqb-true k node t)) (Contains-last met (node, at))
+    marked k e true t = subst (λ (x : ℕ). Contains (met ++ (node, at) ∷ []) (x, at)) (sym (eqb-true k node t)) (Contains-append_right met ((node, at) ∷ []) (node, at) (Contains_here (node, at) []))
     marked k e false t = Contains-append_left met ((node, at) ∷ []) (k, at) (m.marked k (sym (there k t) ∙ e))
 
     met_marked : (k : ℕ) → k < length (set seen node (at + 1)) → Contains (met ++ (node, at) ∷ []) (k, at) → (b : Bool) → eqb k node ≡ b → get_or (set seen node (at + 1)) k 0 ≡ at + 1
@@ -90,7 +59,7 @@ marks_stood seen met node at m h = record {
     met_marked k n c false t =
         there k t ∙ m.met_marked k (rw length-set at n)
         (elim (Contains-append_cases met ((node, at) ∷ []) (k, at) c)
-        [ inl a ↦ a | inr b ↦ absurd (eqb-false k node t (ap (λ (p : ℕ × ℕ). p.0) (Contains-one (node, at) (k, at) b))) ])
+        [ inl a ↦ a | inr b ↦ absurd (eqb-false k node t (ap (λ (p : ℕ × ℕ). p.0) (sym (Contains_one (node, at) (k, at) b)))) ])
 
     low : (k : ℕ) → (b : Bool) → eqb k node ≡ b → get_or (set seen node (at + 1)) k 0 ≤ at + 1
     low k true t = (let e : k ≡ node = eqb-true k node t in let v : get_or (set seen node (at + 1)) k 0 ≡ at + 1 = ap (λ (x : ℕ). get_or (set seen node (at + 1)) x 0) e ∙ here in omega arith)
@@ -215,9 +184,9 @@ comes_first x w v = record {
   once = tt;
   marks = record {
     marked = λ k e. (let z : (let o : ℕ = 0 in get_or (replicate (length x.graph.nodes) o) k o ≡ o) = zeros (length x.graph.nodes) k in absurd (omega arith));
-    met_marked = λ k h c. absurd (Contains-none (k, 0) c);
+    met_marked = λ k h c. absurd (Contains_nothing (k, 0) c);
     low = λ k. (let z : (let o : ℕ = 0 in get_or (replicate (length x.graph.nodes) o) k o ≡ o) = zeros (length x.graph.nodes) k in omega arith);
-    behind = λ k place c. absurd (Contains-none (k, place) c);
+    behind = λ k place c. absurd (Contains_nothing (k, place) c);
   };
   long = length-replicate (length x.graph.nodes) 0;
   is_in = record { node_in = leads-below x.graph None x.graph.entry w.entry; values = v; spans = length-replicate (length x.graph.spans) None };
@@ -238,21 +207,6 @@ comes_begin x s seen nodes w v e f n =
 -- the chain so far with one stage more
 stands_on : (x : Given) (n : ℕ) (s : Stage) → after (moves x) n (begin x) ≡ Some s → stands x (suc n) ≡ stands x n ++ stand s ∷ []
 stands_on x n s e = ap (map stand) (stages_on (moves x) n (begin x) s e) ∙ map-append stand (stages (moves x) n (begin x)) (s ∷ [])
-
-NoneTwice-split : {X : Type 0} (xs : List X) (x : X) (ys : List X) → NoneTwice (xs ++ x ∷ ys) → Contains xs x → ⊥
-NoneTwice-split [] x ys h c = Contains-none x c
-NoneTwice-split (y ∷ xs) x ys h c = elim (Contains_head y xs x c) [
-  | inl e ↦ h.0 (subst (Contains (xs ++ x ∷ ys)) (sym e) (Contains-append_right xs (x ∷ ys) x (0, omega arith, refl)))
-  | inr b ↦ NoneTwice-split xs x ys h.1 b
-]
-
--- a run that ended having come to no node twice at one place never comes back: the laws have it too
-pub ends_or_comes_back : (x : Given) (r : RunResult) (node : ℕ) (byte : Option ℕ) → EndsOnce x r → ComesBack x node byte → ⊥
-ends_or_comes_back x r node byte run back =
-    let split = ended_stages (moves x) run.moves_made back.moves_made (begin x) back.stage r run.ended back.there in
-    let all : stands x run.moves_made ≡ stands x back.moves_made ++ stand back.stage ∷ map stand split.0 =
-    ap (map stand) split.1 ∙ map-append stand (stages (moves x) back.moves_made (begin x)) (back.stage ∷ split.0) in
-    NoneTwice-split (stands x back.moves_made) (stand back.stage) (map stand split.0) (subst NoneTwice all run.once) back.again
 
 -- what the code's loop knows at a node that isn't marked
 pub record Stands (x : Given) (s : Stage) (seen : List ℕ) (node at : ℕ) (kind : Kind) : Type 0 where
@@ -284,7 +238,7 @@ module _ (x : Given) (s : Stage) (seen : List ℕ) (node at : ℕ) (kind : Kind)
   marks_here = subst (Marks seen (stands x h.come.moves_made)) (sym h.at_is) h.come.marks
 
   once_more : NoneTwice (stands x (suc h.come.moves_made))
-  once_more = subst NoneTwice (sym longer) (NoneTwice-one_more (stands x h.come.moves_made) (node, at) h.come.once (λ c. h.fresh (marks_here.met_marked node in_seen c)))
+  once_more = subst NoneTwice (sym longer) (NoneTwice_more (stands x h.come.moves_made) (node, at) h.come.once (λ c. h.fresh (marks_here.met_marked node in_seen c)))
 
   stood : Marks (set seen node (at + 1)) (stands x (suc h.come.moves_made)) at
   stood = subst (λ (l : List (ℕ × ℕ)). Marks (set seen node (at + 1)) l at) (sym longer) (marks_stood seen (stands x h.come.moves_made) node at marks_here in_seen)
@@ -351,7 +305,7 @@ module _ (x : Given) (s : Stage) (seen : List ℕ) (node at : ℕ) (kind : Kind)
       (n : ℕ) (byte : Option ℕ) → ComesBack x n byte → ⊥
   no_loop d o end w some made shows n byte back =
       let run = is_run d o end w some made shows in
-      ends_or_comes_back x run.result n byte run.ends back
+      not_both x run.result n byte run.ends back
 
 -- an element that was read is no mark
 pub fresh_from : (seen : List ℕ) (node v m : ℕ) → node < length seen → v ≡ get_or seen node v → (v ≡ m → ⊥) → get_or seen node 0 ≡ m → ⊥
