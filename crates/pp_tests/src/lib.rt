@@ -18,6 +18,8 @@ mod mean;
 #[cfg(test)]
 mod outside;
 #[cfg(test)]
+mod program;
+#[cfg(test)]
 mod rules;
 #[cfg(test)]
 mod scan;

@@ -1,9 +1,11 @@
-// Runs of plain graphs on whole strings.
+// Runs of graphs on whole strings.
 ghost use Rattle.std.specs.Prelude.{◌<◌};
 
-use pp_graph::Graph;
+use pp_event::{Script, ScriptEntry, ScriptTo};
+use pp_graph::{Graph, Width};
 use pp_mean::{
-    End, Item, MeanFault, WholeRun, at_most_one_run, is_plain, more_moves, run_or_loop, run_whole,
+    End, Item, MeanFault, WholeRun, at_most_one_run, is_plain, longer_strings, more_moves, one_run,
+    run_or_loop, run_whole,
 };
 use pp_text::read_graph;
 use std::alloc::Global;
@@ -172,20 +174,30 @@ fn run_of(
     statements: &str,
     bytes: &[u8],
 ) -> Result<Result<WholeRun, MeanFault>, Fail> {
-    let text = format!(in alloc; "graph 1;{statements};end")?;
-    let (graph, _) = read_graph(alloc, text.as_bytes())?;
-    run_if_plain(alloc, &graph, bytes)
-}
-
-fn run_if_plain(
-    alloc: Global,
-    graph: &Graph,
-    bytes: &[u8],
-) -> Result<Result<WholeRun, MeanFault>, Fail> {
-    if !is_plain(graph) {
+    let graph = graph_of(alloc, statements)?;
+    if !is_plain(&graph) {
         return Err(Fail::from("not plain"));
     }
-    Ok(run_whole(alloc, graph, bytes))
+    answered(alloc, &graph, &[], 0, bytes)
+}
+
+// The graph whose text has these statements in its only line.
+fn graph_of(alloc: Global, statements: &str) -> Result<Graph, Fail> {
+    let text = format!(in alloc; "graph 1;{statements};end")?;
+    let (graph, _) = read_graph(alloc, text.as_bytes())?;
+    Ok(graph)
+}
+
+// A run without sets, which passes so many pauses, each entry being an answer of a host code.
+fn answered(
+    alloc: Global,
+    graph: &Graph,
+    entries: &[ScriptEntry],
+    resumes: u64,
+    bytes: &[u8],
+) -> Result<Result<WholeRun, MeanFault>, Fail> {
+    let script = Script::new(alloc, entries)?;
+    Ok(run_whole(alloc, graph, &[], &script, resumes, bytes))
 }
 
 #[test]
@@ -231,6 +243,126 @@ fn a_loop_is_told_with_its_node_and_byte(rt: HostRuntime) -> Result<(), Fail> {
     Ok(())
 }
 
+// Opens a span over `a`, `b` and `c`, which a `d` closes, and pauses at a `!` inside it.
+const SPANS: &str =
+    "span w;entry o;node o open w;else -> r;node r match;on [abc] -> r;on \"!\" -> p;peek \"d\" -> c;else -> bad;node c close w;else -> z;node z match;skip -> z;node bad error 1 \"bad\";node p pause 21 \"held\";else -> r";
+
+#[test]
+fn a_run_ends_at_the_pause_that_it_may_not_pass(rt: HostRuntime) -> Result<(), Fail> {
+    let graph = graph_of(rt.alloc(), SPANS)?;
+    let run = answered(rt.alloc(), &graph, &[], 0, b"a!bcd")??;
+    assert_eq!(rt; run.end, End::PausedAt { node: 5, code: 21 });
+    assert_eq!(rt; run.at, 2);
+    assert_eq!(rt; run.spans.items(), [(0, 0)].as_slice());
+    assert_eq!(rt; run.items.items().len(), 1);
+    assert!(rt; is_pause(run.items.items().first(), 21, 2));
+    Ok(())
+}
+
+#[test]
+fn a_run_that_passes_it_tells_the_span(rt: HostRuntime) -> Result<(), Fail> {
+    let graph = graph_of(rt.alloc(), SPANS)?;
+    let run = answered(rt.alloc(), &graph, &[], 1, b"a!bcd")??;
+    assert_eq!(rt; run.end, End::Waits { node: 3 });
+    assert_eq!(rt; run.at, 5);
+    assert!(rt; run.spans.items().is_empty());
+    assert_eq!(rt; run.items.items().len(), 2);
+    assert!(rt; is_pause(run.items.items().first(), 21, 2));
+    assert!(rt; is_span(run.items.items().last(), 0, 0, 4));
+    Ok(())
+}
+
+// Whether an item is this pause.
+fn is_pause(item: Option<&Item>, number: u32, place: u64) -> bool {
+    match item {
+        Some(Item::Pause { code, at }) => *code == number && *at == place,
+        _ => false,
+    }
+}
+
+// Whether an item is this span, from a place up to another.
+fn is_span(item: Option<&Item>, number: u32, start: u64, end: u64) -> bool {
+    match item {
+        Some(Item::Span { span, from, to }) => *span == number && *from == start && *to == end,
+        _ => false,
+    }
+}
+
+// Calls `hit` after each `a`, and fails where that is answered 1.
+const ANSWERED: &str =
+    "host hit match;entry s;node s match;on \"a\" -> c;skip -> s;node c call hit;is 1 -> bad;else -> s;node bad error 9 \"x\"";
+
+#[test]
+fn the_script_answers_each_call_in_turn(rt: HostRuntime) -> Result<(), Fail> {
+    let graph = graph_of(rt.alloc(), ANSWERED)?;
+    let entries = [
+        ScriptEntry {
+            to: ScriptTo::Code(0),
+            answer: 0,
+        },
+        ScriptEntry {
+            to: ScriptTo::Code(0),
+            answer: 1,
+        },
+    ];
+    let run = answered(rt.alloc(), &graph, &entries, 0, b"aaa")??;
+    assert_eq!(rt; run.end, End::Failed { node: 2, code: 9 });
+    assert_eq!(rt; run.at, 2);
+    assert_eq!(rt; run.items.items().len(), 2);
+    Ok(())
+}
+
+// Adds each digit to a property of 8 bits, and calls where that passes 255.
+const DIGITS: &str =
+    "prop n u8;host over match;entry d;node d match;on \"2\" = 2 -> add;on \"5\" = 5 -> add;on \"6\" = 6 -> add;else -> bad;node add muladd n 10;is 1 -> big;else -> d;node big call over;else -> d;node bad error 1 \"bad\"";
+
+#[test]
+fn the_values_of_properties_are_those_at_the_end(rt: HostRuntime) -> Result<(), Fail> {
+    let graph = graph_of(rt.alloc(), DIGITS)?;
+    for (bytes, calls, value) in [(b"256", 1, 25), (b"255", 0, 255)] {
+        let run = answered(rt.alloc(), &graph, &[], 0, bytes)??;
+        assert_eq!(rt; run.end, End::Waits { node: 0 });
+        assert_eq!(rt; run.items.items().len(), calls);
+        assert_eq!(rt; run.props.len(), 1);
+        assert!(rt; has_value(&run, value));
+    }
+    Ok(())
+}
+
+// Whether the first property has this value at the end.
+fn has_value(run: &WholeRun, value: u64) -> bool {
+    !run.props.is_empty() && run.props.get(0) == value
+}
+
+// Takes as many bytes as its property says.
+const CONSUMES: &str = "prop n u64;entry c;node c consume n;else -> z;node z match;skip -> z";
+
+#[test]
+fn a_set_gives_a_property_its_first_value(rt: HostRuntime) -> Result<(), Fail> {
+    let graph = graph_of(rt.alloc(), CONSUMES)?;
+    let run = consumed(rt.alloc(), &graph, b"aaa")??;
+    assert_eq!(rt; run.end, End::Waits { node: 0 });
+    assert_eq!(rt; run.at, 3);
+    assert!(rt; has_value(&run, 18_446_744_073_709_551_612));
+    Ok(())
+}
+
+// The run of a graph whose first property has 64 bits and begins at the greatest value.
+fn consumed(
+    alloc: Global,
+    graph: &Graph,
+    bytes: &[u8],
+) -> Result<Result<WholeRun, MeanFault>, Fail> {
+    let script = Script::new(alloc, &[])?;
+    match graph.props().get(0) {
+        Some(decl) => match decl.width {
+            Width::W64 => Ok(run_whole(alloc, graph, &[(0, u64::MAX)], &script, 0, bytes)),
+            _ => Err(Fail::from("another width")),
+        },
+        None => Err(Fail::from("no property")),
+    }
+}
+
 #[test]
 fn faults_of_runs_have_a_text(rt: HostRuntime) -> Result<(), Fail> {
     let twice = MeanFault::Loop {
@@ -249,6 +381,8 @@ fn faults_of_runs_have_a_text(rt: HostRuntime) -> Result<(), Fail> {
 #[test]
 fn laws_are_called() {
     at_most_one_run();
+    longer_strings();
     more_moves();
+    one_run();
     run_or_loop();
 }
