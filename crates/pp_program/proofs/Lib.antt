@@ -1,0 +1,2 @@
+pub mod StateTurns
+mod Rows
