@@ -1,0 +1,11 @@
+mod Bond
+mod Keys
+mod MatchLaws
+mod TreeLaws
+mod EdgeLaws
+mod WalkLaws
+mod NodeWalks
+mod StateLaws
+mod LowerLaws
+mod FormLaws
+mod Rows

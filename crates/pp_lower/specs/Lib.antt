@@ -1,0 +1,4 @@
+pub mod Tree
+pub mod Lowered
+pub mod Kept
+pub mod steps

@@ -1,0 +1,2 @@
+-- Words of private steps alone. No public clause cites them.
+pub mod Order
