@@ -1,2 +1,13 @@
 pub mod StateTurns
+pub mod ListLemmas
+pub mod LeastLemmas
+pub mod NameLemmas
+pub mod RowLemmas
+pub mod FlowLemmas
+pub mod MoveLemmas
+pub mod BridgeLemmas
+pub mod SpanLemmas
+pub mod SoundLemmas
+pub mod TextLemmas
+pub mod VerifyLemmas
 mod Rows

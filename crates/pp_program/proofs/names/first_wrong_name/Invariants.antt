@@ -1,0 +1,10 @@
+use Rattle.std.proofs.Common.{◌≡◌, ℕ, ◌<◌, List, take}
+use Rattle.std.specs.Prelude.{bytes_eq}
+use Rattle.std.specs.List.{list_any}
+use Rattle.pp_rules.specs.NameTables.{is_at}
+use Rattle.pp_program.specs.Names.{NameFails}
+use Rattle.pp_program.proofs.names.first_wrong_name.Given as goal
+
+abbrev pub invariant-loop-i : goal.invariant-loop-i
+invariant-loop-i l =
+    ((name : List ℕ) → is_at l.table name ≡ list_any (λ other. bytes_eq other name) (take l.i l.names)) × ((j : ℕ) → j < l.i → NameFails l.names j → ⊥)

@@ -1,0 +1,4 @@
+-- Words of private steps alone. No public clause cites them.
+pub mod Ends
+pub mod Least
+pub mod Rows
