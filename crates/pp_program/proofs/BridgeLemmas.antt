@@ -1,19 +1,18 @@
 -- What is told of a flow is so of the graph whose moves it has.
-use Rattle.std.proofs.Common.{subst, ◌≡◌, ◌↔◌, ℕ, zero, suc, ◌+◌, ◌*◌, ◌≤◌, ◌<◌, ◌⊎◌, List, [], ◌∷◌, Option, Some, None, Bool, true, false, cond, refl, sym, ◌∙◌, ap, arith, length, get_or, inl, inr, leb}
-use Rattle.std.specs.Prelude.{slice_get, slice_index, ◌-◌, ◌==◌}
+use Rattle.std.proofs.Common.{subst, ◌≡◌, ℕ, suc, ◌≤◌, ◌<◌, ◌⊎◌, List, Option, Bool, true, false, refl, arith, length, inl, inr, leb}
+use Rattle.std.specs.Prelude.{slice_get}
 use Rattle.std.proofs.lemmas.Option.{slice_get_past}
 use Rattle.std.proofs.lemmas.Bool.{cases_lt, leb-true, leb-false}
 use Rattle.pp_flow.specs.declared.moves.Move.{Move}
 use Rattle.pp_flow.specs.Flow as flow
 use Rattle.pp_flow.specs.Loops as judged
-use Rattle.pp_flow.specs.Spans as standing
 use Rattle.pp_program.specs.declared.program.State.{State}
 use Rattle.pp_program.specs.declared.program.Program.{Program}
 use Rattle.pp_program.specs.steps.Rows.{IsSound}
-use Rattle.pp_event.specs.Loops.{FreeMove, TakingMove, PauseMove, Reaches, at_entry, by_free, by_taking, by_pause, FreeWay, stay, onward, LoopFree, IsGap}
+use Rattle.pp_event.specs.Loops.{FreeMove, TakingMove, PauseMove, Reaches, at_entry, by_free, by_taking, by_pause, FreeWay, stay, onward, IsGap}
 use Rattle.pp_program.specs.Moves.{program_moves, IsLoopFree, IsOnCycle}
 use Rattle.pp_program.specs.steps.Ends.{Way, EndsAt}
-use Rattle.pp_program.specs.steps.Ends.{free as keeps, onward as takes, edge as counts}
+use Rattle.pp_program.specs.steps.Ends.{free as keeps, onward as takes}
 use Rattle.pp_program.specs.steps.Rows.{Has, TellsBelow}
 use Rattle.pp_program.specs.Valid.{HasRanks}
 use Rattle.pp_program.proofs.MoveLemmas.{free-told, onward-told, free-made-by, onward-made-by}

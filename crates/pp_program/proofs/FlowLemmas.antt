@@ -1,20 +1,17 @@
 -- The rows of a program, state by state.
-use Rattle.std.proofs.Common.{subst, ◌≡◌, ◌↔◌, ℕ, zero, suc, ◌+◌, ◌-◌, ◌*◌, ◌≤◌, ◌<◌, ◌⊎◌, List, [], ◌∷◌, ◌++◌, Option, Some, None, Bool, true, false, cond, refl, sym, ◌∙◌, ap, arith, length, map, take, get_or, inl, inr}
-use Rattle.std.specs.Prelude.{slice_get, slice_index_or, find}
-use Rattle.std.specs.List.{Any}
+use Rattle.std.proofs.Common.{subst, ◌≡◌, ◌↔◌, ℕ, zero, suc, ◌+◌, ◌<◌, ◌⊎◌, List, [], ◌∷◌, Option, Some, None, Bool, true, false, cond, refl, sym, ◌∙◌, ap, arith, length, map, take, get_or, inl, inr}
+use Rattle.std.specs.Prelude.{slice_get, slice_index_or}
 use Rattle.std.proofs.lemmas.Bool.{cases_lt}
-use Rattle.std.proofs.lemmas.List.{get_or_default, length-map}
-use Rattle.std.proofs.lemmas.Option.{slice_get_within, slice_get_past, slice_get-get_or}
+use Rattle.std.proofs.lemmas.List.{get_or_default}
+use Rattle.std.proofs.lemmas.Option.{slice_get-get_or}
 use Rattle.pp_bytes.specs.declared.fold.Fold.{Fold}
 use Rattle.pp_bytes.specs.Fold.{folded}
 use Rattle.pp_bytes.specs.Ranges.{in_ranges, in_pair}
-use Rattle.pp_flow.specs.Chart.{Chart, with_move, with_point}
+use Rattle.pp_flow.specs.Chart.{Chart, with_point}
 use Rattle.pp_flow.specs.Spans.{HaveSpans, act_at}
 use Rattle.pp_flow.specs.declared.moves.Act.{Act}
 use Rattle.pp_flow.specs.declared.moves.Act.TheVariants as act
-use Rattle.pp_flow.specs.declared.moves.Move.{Move}
 use Rattle.pp_graph.specs.declared.node.Answer.{Answer}
-use Rattle.pp_program.specs.declared.branch.Step.{Step}
 use Rattle.pp_program.specs.declared.program.Edge.{Edge}
 use Rattle.pp_program.specs.declared.program.Rest.{Rest}
 use Rattle.pp_program.specs.declared.program.Instr.{Instr}
@@ -22,8 +19,8 @@ use Rattle.pp_program.specs.declared.program.Instr.TheVariants.{Branch, Invoke, 
 use Rattle.pp_program.specs.declared.program.State.{State}
 use Rattle.pp_program.specs.declared.program.Program.{Program}
 use Rattle.pp_program.specs.States.{edge_on}
-use Rattle.pp_program.specs.steps.Ends.{Way, free, onward, edge, Ends, OrEnds, EdgeEnds, DeadEnds, AnswerEnds, FreeEnds, StepsBelow, EndsAt, EndsOf, edge_step, step_on}
-use Rattle.pp_program.specs.steps.Rows.{Has, IsOn, MoveEnds, Rowed, TellsBelow, IsFlowOf, IsSound, LeadsWithin, SpanWithin, act_of, act_by}
+use Rattle.pp_program.specs.steps.Ends.{Way, free, onward, edge, OrEnds, EdgeEnds, DeadEnds, AnswerEnds, FreeEnds, EndsAt, EndsOf, edge_step, step_on}
+use Rattle.pp_program.specs.steps.Rows.{Rowed, TellsBelow, IsFlowOf, IsSound, LeadsWithin, SpanWithin, act_of, act_by}
 use Rattle.pp_program.proofs.ListLemmas.{any-more}
 use Rattle.pp_program.proofs.RowLemmas.{rowed-then, rowed-same}
 

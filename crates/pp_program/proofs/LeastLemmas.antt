@@ -4,7 +4,7 @@ use Rattle.std.specs.Prelude.{slice_get, not}
 use Rattle.std.proofs.lemmas.Bool.{cases_lt, false≢true}
 use Rattle.std.proofs.lemmas.Option.{slice_get_within, slice_get-get_or}
 use Rattle.pp_program.specs.declared.program.State.{State}
-use Rattle.pp_program.specs.Targets.{in_row, row_behind}
+use Rattle.pp_program.specs.Targets.{in_row}
 use Rattle.pp_program.specs.steps.Least.{IsAt}
 
 pub least-more : (P : State → Type 0) (items states : List State) (i : ℕ) (d : State) → items ≡ states → i < length items → ((j : ℕ) → j < i → IsAt P states j → ⊥) → (P (get_or items i d) → ⊥) →

@@ -1,9 +1,9 @@
 -- Some element of a list, and the fronts of lists.
-use Rattle.std.proofs.Common.{subst, ◌≡◌, ◌↔◌, ℕ, zero, suc, ◌+◌, ◌≤◌, ◌<◌, ◌⊎◌, List, [], ◌∷◌, ◌++◌, Option, Some, None, Bool, true, false, refl, sym, ◌∙◌, ap, arith, length, take, get_or, inl, inr}
-use Rattle.std.specs.Prelude.{slice_get, slice_index}
+use Rattle.std.proofs.Common.{subst, ◌≡◌, ◌↔◌, ℕ, zero, suc, ◌+◌, ◌<◌, ◌⊎◌, List, [], ◌∷◌, Some, refl, sym, ◌∙◌, ap, arith, length, take, get_or, inl, inr}
+use Rattle.std.specs.Prelude.{slice_get}
 use Rattle.std.specs.List.{Any}
 use Rattle.std.proofs.lemmas.Option.{slice_get_within, slice_get-get_or, get_or_from_slice_get}
-use Rattle.std.proofs.lemmas.List.{get_or-take, length-take, length-take-le, take_more, get_or_append_left, get_or_at, get_or_default}
+use Rattle.std.proofs.lemmas.List.{get_or-take, length-take-le, get_or_default}
 
 module _ {X : Type 0} where
   -- an element that is there

@@ -1,8 +1,7 @@
 -- Where a state leads by its turns, an edge of it tells, and each end that its edges tell is come to on some string.
-use Rattle.std.proofs.Common.{subst, ◌≡◌, ◌↔◌, ℕ, zero, suc, ◌+◌, ◌≤◌, ◌<◌, ◌⊎◌, List, [], ◌∷◌, Option, Some, None, Bool, true, false, cond, refl, sym, ◌∙◌, ap, arith, length, replicate, get_or, inl, inr, eqb}
+use Rattle.std.proofs.Common.{subst, ◌≡◌, ℕ, zero, suc, ◌<◌, ◌⊎◌, List, [], ◌∷◌, Option, Some, None, Bool, true, false, cond, refl, sym, ◌∙◌, ap, arith, replicate, inl, inr}
 use Rattle.std.specs.Prelude.{slice_get, slice_index, nat_le, ◌==◌, find, unwrap_or}
 use Rattle.std.specs.List.{Any}
-use Rattle.std.proofs.lemmas.Bool.{eqb-true}
 use Rattle.std.proofs.lemmas.List.{get_or-replicate}
 use Rattle.pp_bytes.specs.declared.fold.Fold.{Fold}
 use Rattle.pp_bytes.specs.Fold.{folded}
@@ -16,12 +15,12 @@ use Rattle.pp_program.specs.declared.program.Instr.TheVariants.{Branch, Invoke, 
 use Rattle.pp_program.specs.declared.program.State.{State}
 use Rattle.pp_program.specs.declared.program.Program.{Program}
 use Rattle.pp_event.specs.Run.{Config, Turn, Goes, Asks, Rests, Stops, Fails}
-use Rattle.pp_event.specs.Turns.{Effect, AsksHost, Answers, Sets, effect_turn, consume_turn, consumed, drained, to}
+use Rattle.pp_event.specs.Turns.{Effect, AsksHost, Answers, Sets, effect_turn, consumed, drained, to}
 use Rattle.pp_event.specs.Codes.{target_or, answered, effect_of}
 use Rattle.pp_event.specs.Loops.{LeadsTo, Leads, FreeMove, TakingMove, PauseMove, AreBytes}
 use Rattle.pp_program.specs.States.{edge_on, edge_turn, branch_turn, rest_turn, is_empty_branch, instr_turn, state_turn, program_turn}
 use Rattle.pp_program.specs.Moves.{AnswersWith, AnswerEdge, program_moves}
-use Rattle.pp_program.specs.steps.Ends.{Way, free, onward, edge, EndsOf, EndsAt, NoEnds, StepEnds, edge_step, step_on}
+use Rattle.pp_program.specs.steps.Ends.{Way, free, onward, EndsOf, EndsAt, StepEnds, edge_step, step_on}
 use Rattle.pp_program.proofs.ListLemmas.{any-first, any-later}
 
 -- by a move that takes so many bytes

@@ -1,11 +1,11 @@
 -- Names that are passed one by one.
-use Rattle.std.proofs.Common.{subst, ◌≡◌, ℕ, zero, suc, ◌+◌, ◌≤◌, ◌<◌, List, [], ◌∷◌, ◌++◌, Option, Some, Bool, true, false, refl, sym, ◌∙◌, ap, arith, length, length-append, map, take, drop, get_or, ◌||◌, inl, inr, ◌⊎◌}
-use Rattle.std.specs.Prelude.{slice_get, bytes_eq, not, IsTrue}
+use Rattle.std.proofs.Common.{subst, ◌≡◌, ℕ, zero, suc, ◌+◌, ◌≤◌, ◌<◌, List, [], ◌∷◌, ◌++◌, Some, Bool, true, false, refl, sym, ◌∙◌, ap, arith, length, length-append, map, take, drop, get_or, ◌||◌, inl, inr, ◌⊎◌}
+use Rattle.std.specs.Prelude.{slice_get, bytes_eq, not}
 use Rattle.std.specs.List.{list_any}
 use Rattle.std.proofs.lemmas.Bool.{cases_lt, false≢true}
 use Rattle.std.proofs.lemmas.List.{take_more, length-map, append_assoc, drop_all}
 use Rattle.std.proofs.lemmas.List.Folds.{list_any-append}
-use Rattle.std.proofs.lemmas.Option.{slice_get_within, slice_get-get_or, get_or_from_slice_get}
+use Rattle.std.proofs.lemmas.Option.{slice_get_within, get_or_from_slice_get}
 use Rattle.pp_rules.specs.Names.{is_name, is_reason}
 use Rattle.pp_program.specs.declared.program.Instr.{Instr}
 use Rattle.pp_program.specs.declared.program.Instr.TheVariants.{Branch, Invoke, Consume, SpanOpen, SpanClose, Pause, Fail}

@@ -1,14 +1,13 @@
 -- What is told by rows when rows are added.
-use Rattle.std.proofs.Common.{subst, ◌≡◌, ◌↔◌, ℕ, zero, suc, ◌+◌, ◌-◌, ◌≤◌, ◌<◌, ◌⊎◌, List, [], ◌∷◌, ◌++◌, Option, Some, None, Bool, true, false, refl, sym, ◌∙◌, ap, arith, length, inl, inr, ◌&&◌, eqb}
+use Rattle.std.proofs.Common.{subst, ◌≡◌, ◌↔◌, ℕ, zero, suc, ◌+◌, ◌≤◌, ◌<◌, ◌⊎◌, List, [], ◌∷◌, ◌++◌, Some, Bool, true, false, refl, sym, ◌∙◌, ap, arith, length, inl, inr, ◌&&◌, eqb}
 use mathlib.Core.Bool.{beq}
-use Rattle.std.specs.Prelude.{slice_get, not, IsTrue, IsOk}
-use Rattle.std.specs.List.{Any}
+use Rattle.std.specs.Prelude.{slice_get, not}
 use Rattle.std.proofs.lemmas.Bool.{cases_lt, eqb-true, false≢true}
-use Rattle.pp_flow.specs.Chart.{Chart, with_move, with_point}
+use Rattle.pp_flow.specs.Chart.{Chart, with_move}
 use Rattle.pp_flow.specs.declared.moves.Move.{Move}
 use Rattle.pp_program.specs.declared.branch.Step.{Step}
-use Rattle.pp_program.specs.steps.Ends.{Way, free, onward, edge, Ends, OrEnds, NoEnds, StepEnds, StepsBelow, FreeEnds, BothEnds, DeadEnds}
-use Rattle.pp_program.specs.steps.Rows.{IsOn, Has, Adds, MoveEnds, Rowed}
+use Rattle.pp_program.specs.steps.Ends.{Way, free, onward, edge, Ends, OrEnds, NoEnds, StepsBelow, FreeEnds, BothEnds, DeadEnds}
+use Rattle.pp_program.specs.steps.Rows.{IsOn, MoveEnds, Rowed}
 
 get-pushed : {X : Type 0} (xs : List X) (x y : X) (i : ℕ) → slice_get (xs ++ x ∷ []) i ≡ Some y → (slice_get xs i ≡ Some y) ⊎ (x ≡ y)
 get-pushed [] x y zero e = inr cc

@@ -1,21 +1,19 @@
 -- What the rule on targets gives, and where rules fail.
-use Rattle.std.proofs.Common.{subst, ◌≡◌, ℕ, zero, suc, ◌+◌, ◌≤◌, ◌<◌, List, [], ◌∷◌, Option, Some, None, Bool, true, false, refl, sym, ◌∙◌, ap, arith, length, ◌&&◌, inl, inr, ◌⊎◌}
-use Rattle.std.specs.Prelude.{slice_get, not, nat_le, nat_lt}
+use Rattle.std.proofs.Common.{subst, ◌≡◌, ℕ, zero, suc, ◌<◌, List, [], ◌∷◌, Option, Some, None, Bool, true, false, refl, sym, ◌∙◌, arith, length, ◌&&◌, inl, inr}
+use Rattle.std.specs.Prelude.{slice_get, nat_lt}
 use Rattle.std.specs.List.{list_all}
-use Rattle.std.proofs.lemmas.Bool.{cases_lt, cases_Bool, false≢true, leb-true, ltb-true}
+use Rattle.std.proofs.lemmas.Bool.{cases_Bool, false≢true, leb-true, ltb-true}
 use Rattle.std.proofs.lemmas.Option.{slice_get_within}
-use Rattle.pp_graph.specs.declared.node.Answer.{Answer}
 use Rattle.pp_program.specs.declared.program.Edge.{Edge}
 use Rattle.pp_program.specs.declared.program.Instr.{Instr}
 use Rattle.pp_program.specs.declared.program.Instr.TheVariants.{Branch, Invoke, Consume, SpanOpen, SpanClose, Pause, Fail}
 use Rattle.pp_program.specs.declared.program.State.{State}
 use Rattle.pp_program.specs.declared.program.Program.{Program}
-use Rattle.pp_program.specs.declared.fault.VerifyRule.{VerifyRule}
-use Rattle.pp_program.specs.declared.fault.VerifyRule.TheVariants.{Target, Width, Loop, Spans, Names}
+use Rattle.pp_program.specs.declared.fault.VerifyRule.TheVariants.{Target, Width}
 use Rattle.pp_program.specs.Targets.{leads, is_plain_state, is_value_state, is_edge, is_rest, is_answer, is_instr, is_state, is_frame, are_counts, in_row, may_follow, answer_follows, is_finish}
 use Rattle.pp_program.specs.Widths.{is_wide_instr}
-use Rattle.pp_program.specs.Valid.{StateFails, WidthFails, Fails, Holds, IsBroken}
-use Rattle.pp_program.specs.steps.Least.{IsAt, IsFirstState}
+use Rattle.pp_program.specs.Valid.{Holds, IsBroken}
+use Rattle.pp_program.specs.steps.Least.{IsFirstState}
 use Rattle.pp_program.specs.steps.Rows.{IsSound, LeadsWithin, SpanWithin, Counts}
 use Rattle.pp_program.proofs.RowLemmas.{both-true}
 

@@ -1,9 +1,8 @@
 -- What is told of the spans of a flow is so of the graph.
-use Rattle.std.proofs.Common.{subst, ◌≡◌, ◌↔◌, ℕ, zero, suc, ◌+◌, ◌*◌, ◌≤◌, ◌<◌, ◌⊎◌, List, [], ◌∷◌, Option, Some, None, Bool, true, false, cond, refl, sym, ◌∙◌, ap, arith, length, map, get_or, inl, inr}
-use Rattle.std.specs.Prelude.{slice_get, slice_index, slice_index_or, ◌-◌, ◌/◌, ◌==◌, ◌≢◌}
-use Rattle.std.specs.Int.{bit_at}
+use Rattle.std.proofs.Common.{subst, ◌≡◌, ◌↔◌, ℕ, ◌+◌, ◌*◌, ◌<◌, ◌⊎◌, List, Option, Some, None, Bool, true, false, cond, refl, sym, ◌∙◌, ap, arith, length, map, inl, inr}
+use Rattle.std.specs.Prelude.{slice_get, slice_index_or, ◌/◌, ◌==◌}
 use Rattle.std.proofs.lemmas.Bool.{cases_lt, eqb-true, false≢true}
-use Rattle.std.proofs.lemmas.Option.{slice_get_within, slice_get_past}
+use Rattle.std.proofs.lemmas.Option.{slice_get_within}
 use Rattle.pp_flow.specs.declared.moves.Act.{Act}
 use Rattle.pp_flow.specs.declared.moves.Act.TheVariants as act
 use Rattle.pp_flow.specs.declared.moves.Move.{Move}
@@ -18,10 +17,10 @@ use Rattle.pp_program.specs.declared.program.Program.{Program}
 use Rattle.pp_program.specs.steps.Rows.{IsSound, SpanWithin, LeadsWithin}
 use Rattle.pp_program.specs.Edges.{HasEdge, EdgeFrom, IsEdge}
 use Rattle.pp_program.specs.Spans.{open_behind, behind, MayStand, at_entry, along, MayBeOpen, MayBeShut, Opens, Closes, Fails, OpensBy, ClosesBy, FailsBy, Reopens, ClosesShut, Mixes, HasNo, HasNoFault, HasFault, SpansFit, TellsOpen}
-use Rattle.pp_program.specs.steps.Ends.{Way, EndsOf, EndsAt}
+use Rattle.pp_program.specs.steps.Ends.{EndsOf, EndsAt}
 use Rattle.pp_program.specs.steps.Ends.{edge as counts}
 use Rattle.pp_program.specs.steps.Rows.{Has, TellsBelow, act_of, act_by}
-use Rattle.pp_program.specs.steps.Ends.{edge_step, step_on}
+use Rattle.pp_program.specs.steps.Ends.{edge_step}
 use Rattle.pp_program.specs.declared.program.Edge.{Edge}
 use Rattle.pp_program.specs.declared.program.Rest.{Rest}
 use Rattle.pp_program.specs.States.{edge_on}

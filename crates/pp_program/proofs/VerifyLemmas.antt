@@ -1,25 +1,20 @@
 -- What the flow of a program tells of its loops and spans.
-use Rattle.std.proofs.Common.{subst, ◌≡◌, ℕ, ◌+◌, ◌≤◌, ◌<◌, List, Option, Some, None, refl, sym, ◌∙◌, ap, arith, length, map, inl, inr}
-use Rattle.std.specs.Prelude.{slice_index}
-use Rattle.std.proofs.lemmas.Bool.{cases_lt}
+use Rattle.std.proofs.Common.{subst, ◌≡◌, ℕ, ◌<◌, List, sym, ◌∙◌, arith, length}
 use Rattle.pp_flow.specs.Chart.{Chart}
 use Rattle.pp_flow.specs.Flow as flow
 use Rattle.pp_flow.specs.Loops as judged
 use Rattle.pp_flow.specs.Faults as faults
 use Rattle.pp_flow.specs.Spans as standing
-use Rattle.pp_flow.specs.declared.moves.Act.{Act}
-use Rattle.pp_flow.specs.declared.moves.Move.{Move}
 use Rattle.pp_flow.specs.declared.faults.SpanFault.{SpanFault}
 use Rattle.pp_flow.specs.declared.faults.SpanFault.TheVariants.{Reopened, NotOpen, Mixed}
 use Rattle.pp_event.specs.Loops.{IsGap}
-use Rattle.pp_program.specs.declared.program.State.{State}
 use Rattle.pp_program.specs.declared.program.Program.{Program}
-use Rattle.pp_program.specs.declared.fault.VerifyRule.TheVariants.{Target, Width, Loop, Spans, Names}
-use Rattle.pp_program.specs.Moves.{program_moves, IsOnCycle}
-use Rattle.pp_program.specs.Spans.{TellsOpen, HasFault}
+use Rattle.pp_program.specs.declared.fault.VerifyRule.TheVariants.{Target, Width, Loop, Spans}
+use Rattle.pp_program.specs.Moves.{program_moves}
+use Rattle.pp_program.specs.Spans.{TellsOpen}
 use Rattle.pp_program.specs.Valid.{Holds, IsBroken, HasRanks}
-use Rattle.pp_program.specs.steps.Rows.{IsFlowOf, TellsBelow, IsSound, act_of, node_of}
-use Rattle.pp_program.proofs.BridgeLemmas.{same-gap, cycle-here, cycle-there, ranks, on-cycle}
+use Rattle.pp_program.specs.steps.Rows.{IsFlowOf, TellsBelow, IsSound, node_of}
+use Rattle.pp_program.proofs.BridgeLemmas.{same-gap, cycle-here, cycle-there, ranks}
 use Rattle.pp_program.proofs.SpanLemmas.{same-masks, fault-here, not-fault, fault-within}
 use Rattle.pp_program.proofs.SoundLemmas.{sound-of}
 

@@ -1,5 +1,5 @@
 -- Programs whose lists are so short that 32 bits count their entries.
-use Rattle.std.specs.Prelude.{◌≡◌, ℕ, ◌<◌, ◌^◌, List, Some, length, slice_get}
+use Rattle.std.specs.Prelude.{◌≡◌, ℕ, ◌<◌, ◌^◌, Some, length, slice_get}
 use Rattle.pp_program.specs.declared.program.Instr.{Instr}
 use Rattle.pp_program.specs.declared.program.Instr.TheVariants.{Branch, Invoke, Consume, SpanOpen, SpanClose, Pause, Fail}
 use Rattle.pp_program.specs.declared.program.State.{State}

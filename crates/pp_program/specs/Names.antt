@@ -1,5 +1,5 @@
 -- The names and reasons of a program, and those that are wrong.
-use Rattle.std.specs.Prelude.{◌≡◌, ℕ, ◌+◌, List, [], ◌∷◌, ◌++◌, Option, Some, None, Bool, false, ◌||◌, not, length, map, take, slice_get, bytes_eq, ◌⊎◌, IsTrue}
+use Rattle.std.specs.Prelude.{◌≡◌, ℕ, ◌+◌, List, [], ◌∷◌, ◌++◌, Some, Bool, false, ◌||◌, not, length, map, take, slice_get, bytes_eq, ◌⊎◌, IsTrue}
 use Rattle.std.specs.List.{list_any}
 use Rattle.pp_rules.specs.Names.{is_name, is_reason}
 use Rattle.pp_rules.specs.declared.declaration.PropDecl.{PropDecl}

@@ -1,5 +1,5 @@
 -- The rules of a program, where each fails, and the programs that keep them all.
-use Rattle.std.specs.Prelude.{◌≡◌, ℕ, ◌<◌, ◌≤◌, ◌⊎◌, List, [], ◌∷◌, Some, Bool, true, false, length, slice_get}
+use Rattle.std.specs.Prelude.{◌≡◌, ℕ, ◌<◌, ◌≤◌, ◌⊎◌, List, Some, true, false, length, slice_get}
 use Rattle.pp_event.specs.Loops.{IsGap, IsRankTable, Reaches}
 use Rattle.pp_program.specs.declared.program.Instr.{Instr}
 use Rattle.pp_program.specs.declared.program.State.{State}

@@ -1,12 +1,11 @@
 -- Constants and numbers that a property is too narrow for.
-use Rattle.std.specs.Prelude.{ℕ, List, Option, Some, None, Bool, true, false, ◌||◌, slice_get, nat_lt}
+use Rattle.std.specs.Prelude.{ℕ, Option, Some, None, Bool, false, ◌||◌, slice_get, nat_lt}
 use Rattle.std.specs.List.{list_any}
 use Rattle.pp_rules.specs.Widths.{greatest}
 use Rattle.pp_rules.specs.declared.declaration.PropDecl.{PropDecl}
 use Rattle.pp_graph.specs.declared.node.Code.{Code}
 use Rattle.pp_graph.specs.declared.node.Code.TheVariants as code
 use Rattle.pp_program.specs.declared.program.Edge.{Edge}
-use Rattle.pp_program.specs.declared.program.Rest.{Rest}
 use Rattle.pp_program.specs.declared.program.Instr.{Instr}
 use Rattle.pp_program.specs.declared.program.Instr.TheVariants.{Branch, Invoke, Consume, SpanOpen, SpanClose, Pause, Fail}
 use Rattle.pp_program.specs.declared.program.State.{State}

@@ -1,5 +1,5 @@
 -- What rows of a flow tell.
-use Rattle.std.specs.Prelude.{◌≡◌, ℕ, ◌<◌, ◌≤◌, List, Option, Some, None, Bool, true, false, ◌⊎◌, ◌↔◌, slice_get, map, length, IsTrue}
+use Rattle.std.specs.Prelude.{◌≡◌, ℕ, ◌<◌, ◌≤◌, List, Option, Some, None, ◌⊎◌, ◌↔◌, slice_get, map, length, IsTrue}
 use Rattle.pp_graph.specs.declared.node.Answer.{Answer}
 use Rattle.pp_program.specs.declared.program.Edge.{Edge}
 use Rattle.pp_flow.specs.Chart.{Chart}

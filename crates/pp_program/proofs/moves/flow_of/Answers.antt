@@ -1,4 +1,4 @@
-use Rattle.std.proofs.Common.{ℕ, ◌≡◌, ◌≤◌, ◌<◌, ◌+◌, ◌-◌, refl, sym, ◌∙◌, arith, ap, map}
+use Rattle.std.proofs.Common.{◌∙◌, ap, map}
 use Rattle.pp_program.specs.declared.program.State.{State}
 use Rattle.pp_program.specs.steps.Rows.{act_of}
 use Rattle.pp_program.proofs.FlowLemmas.{have-spans, lead-at, flow-more}

@@ -1,5 +1,4 @@
-use Rattle.std.proofs.Common.{map, ◌≡◌, Some}
-use Rattle.std.specs.Prelude.{slice_get}
+use Rattle.std.proofs.Common.{map}
 use Rattle.pp_rules.specs.declared.declaration.PropDecl.{PropDecl}
 use Rattle.pp_rules.specs.NameTables.{is_at}
 use Rattle.pp_program.proofs.NameLemmas.{name-more, name-all-map, listed-map}

@@ -1,4 +1,4 @@
-use Rattle.std.proofs.Common.{sym, ap, ◌∙◌, ◌≡◌, false, true}
+use Rattle.std.proofs.Common.{sym, ap, ◌∙◌, ◌≡◌, false}
 use Rattle.std.proofs.lemmas.Bool.{false≢true}
 use Rattle.pp_program.specs.Targets.{is_state}
 use Rattle.pp_program.proofs.LeastLemmas.{least-more, least-all}

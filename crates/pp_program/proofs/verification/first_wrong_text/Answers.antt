@@ -1,4 +1,4 @@
-use Rattle.std.proofs.Common.{subst, sym, ap, arith, ℕ, ◌+◌, ◌≤◌, ◌<◌, ◌≡◌, length, map, Some, None, List}
+use Rattle.std.proofs.Common.{subst, ap, arith, ℕ, ◌+◌, ◌<◌, ◌≡◌, length, map, Some, None, List}
 use Rattle.pp_rules.specs.declared.declaration.PropDecl.{PropDecl}
 use Rattle.pp_rules.specs.declared.declaration.HostDecl.{HostDecl}
 use Rattle.pp_rules.specs.declared.declaration.SpanDecl.{SpanDecl}

@@ -1,5 +1,4 @@
 use Rattle.pp_program.specs.declared.program.Program.{Program}
-use Rattle.pp_program.specs.declared.fault.VerifyRule.{VerifyRule}
 use Rattle.pp_program.specs.declared.fault.VerifyRule.TheVariants.{Target, Width, Loop, Spans, Names}
 use Rattle.pp_program.specs.Valid.{Holds, IsValid}
 use Rattle.pp_program.proofs.SoundLemmas.{sound-of, counts-of}

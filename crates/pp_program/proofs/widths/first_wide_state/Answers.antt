@@ -1,4 +1,4 @@
-use Rattle.std.proofs.Common.{sym, ◌∙◌, ◌≡◌, false, true}
+use Rattle.std.proofs.Common.{sym, ◌∙◌, ◌≡◌, true}
 use Rattle.std.proofs.lemmas.Bool.{false≢true}
 use Rattle.pp_program.specs.Widths.{is_wide_instr}
 use Rattle.pp_program.proofs.LeastLemmas.{least-more, least-all}
