@@ -1,0 +1,12 @@
+pub mod ListLemmas
+pub mod CommonLemmas
+pub mod MatchLemmas
+pub mod MadeLemmas
+pub mod KindLemmas
+pub mod WellLemmas
+pub mod BridgeLemmas
+pub mod SpanLemmas
+pub mod AbsurdLemmas
+pub mod WayLemmas
+pub mod MaskLemmas
+pub mod SomeAnswerLemmas
