@@ -6,6 +6,8 @@ mod bytes;
 #[cfg(test)]
 mod capture;
 #[cfg(test)]
+mod check;
+#[cfg(test)]
 mod event;
 #[cfg(test)]
 mod flow;
@@ -13,6 +15,8 @@ mod flow;
 mod frame;
 #[cfg(test)]
 mod graph;
+#[cfg(test)]
+mod lower;
 #[cfg(test)]
 mod mean;
 #[cfg(test)]
