@@ -5,7 +5,7 @@ use Rattle.std.specs.List.{Any}
 use Rattle.std.proofs.lemmas.Bool.{eq-eqb, eqb-true, eqb-false, ne_eqb, false≢true, lt-ltb, ltb-true, ltb-false}
 use Rattle.pp_graph.specs.declared.node.Key.{Key}
 use Rattle.pp_mean.specs.Nodes.{common, reach, fits, longer, best, goes_on}
-use Rattle.pp_check.proofs.ListLemmas.{any-first, any-later}
+use Rattle.pp_flow.proofs.ListLemmas.{any-first, any-later}
 
 pub common-short : (l w : List ℕ) → common l w ≤ length l
 common-short [] w = omega arith

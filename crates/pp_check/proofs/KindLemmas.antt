@@ -3,6 +3,7 @@ use Rattle.std.proofs.Common.{subst, ◌≡◌, ℕ, zero, suc, ◌<◌, ◌⊎�
 use Rattle.std.specs.Prelude.{slice_get, slice_index, nat_le, ◌==◌, find}
 use Rattle.std.specs.List.{Any}
 use Rattle.std.proofs.lemmas.List.{get_or-replicate}
+use Rattle.pp_flow.specs.Rows.{free, onward}
 use Rattle.pp_bytes.specs.Fold.{folded}
 use Rattle.pp_graph.specs.declared.node.Answer.{Answer}
 use Rattle.pp_graph.specs.declared.node.Key.{Key}
@@ -18,8 +19,8 @@ use Rattle.pp_event.specs.Codes.{target_or, answered, effect_of}
 use Rattle.pp_event.specs.Loops.{LeadsTo, Leads, FreeMove, TakingMove, PauseMove, AreBytes}
 use Rattle.pp_mean.specs.Nodes.{kind_turn, key_turn, peek_turn, peek_at, reach, best, node_turn, graph_turn}
 use Rattle.pp_mean.specs.Loops.{AnswersWith, AnswerEdge, graph_moves}
-use Rattle.pp_check.specs.steps.Ends.{free, onward, EndsOf, EndsAt}
-use Rattle.pp_check.proofs.ListLemmas.{any-first, any-later}
+use Rattle.pp_check.specs.steps.Ends.{EndsOf, EndsAt}
+use Rattle.pp_flow.proofs.ListLemmas.{any-first, any-later}
 use Rattle.pp_check.proofs.MatchLemmas.{KeysFit, PeeksFit, way_of, match-told}
 use Rattle.pp_check.proofs.MadeLemmas.{key-made, behind-made, peek-made, free-made, skip-made}
 

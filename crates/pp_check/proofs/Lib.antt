@@ -1,4 +1,4 @@
-pub mod ListLemmas
+pub mod KeyLemmas
 pub mod CommonLemmas
 pub mod MatchLemmas
 pub mod MadeLemmas
@@ -6,7 +6,11 @@ pub mod KindLemmas
 pub mod WellLemmas
 pub mod BridgeLemmas
 pub mod SpanLemmas
+pub mod TableLemmas
+pub mod ShapeLemmas
+pub mod OneAnswerLemmas
 pub mod AbsurdLemmas
 pub mod WayLemmas
 pub mod MaskLemmas
 pub mod SomeAnswerLemmas
+pub mod RowLemmas

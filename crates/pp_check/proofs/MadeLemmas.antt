@@ -4,6 +4,7 @@ use Rattle.std.specs.Prelude.{slice_get, slice_index, ◌==◌, ◌-◌, find}
 use Rattle.std.specs.List.{Any}
 use Rattle.std.proofs.lemmas.Bool.{cases_lt}
 use Rattle.std.proofs.lemmas.List.{get_or-take, length-take-le, take-take, take_at, length_push, get_or_push, map-append}
+use Rattle.pp_flow.specs.Rows.{free, onward}
 use Rattle.pp_bytes.specs.declared.fold.Fold.{Fold}
 use Rattle.pp_bytes.specs.Fold.{folded}
 use Rattle.pp_graph.specs.declared.node.Key.{Key}
@@ -12,8 +13,8 @@ use Rattle.pp_graph.specs.declared.node.Other.{Other}
 use Rattle.pp_event.specs.Run.{Config, Rests}
 use Rattle.pp_event.specs.Loops.{LeadsTo, AreBytes}
 use Rattle.pp_mean.specs.Nodes.{common, reach, best, goes_on, other_turn, peek_at, peek_turn, key_turn, rests_at, match_turn}
-use Rattle.pp_check.specs.steps.Ends.{free, onward, GoesOnBy, IsLive, KeyBegins, PeekAt, IsKeyOf, StopsIn, StopsBehind, KeyEnds, PeekEnds, IsOtherByte, OtherEnds}
-use Rattle.pp_check.proofs.ListLemmas.{any-at, any-listed}
+use Rattle.pp_check.specs.steps.Ends.{GoesOnBy, IsLive, KeyBegins, PeekAt, IsKeyOf, StopsIn, StopsBehind, KeyEnds, PeekEnds, IsOtherByte, OtherEnds}
+use Rattle.pp_flow.proofs.ListLemmas.{any-at, any-listed}
 use Rattle.pp_check.proofs.CommonLemmas.{common-short, common-same, common-most, reach-most, reach-is, best-none, best-is-none, IsBest, best-some, past-none}
 use Rattle.pp_check.proofs.MatchLemmas.{KeysFit, PeeksFit, fits-by, by-fit, first-same, find-some, find-none}
 

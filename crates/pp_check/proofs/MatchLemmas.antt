@@ -4,6 +4,7 @@ use Rattle.std.specs.Prelude.{slice_get, slice_index, ◌==◌, find}
 use Rattle.std.specs.List.{Any}
 use Rattle.std.proofs.lemmas.Bool.{eqb-true, eqb-false, cases_lt}
 use Rattle.std.proofs.lemmas.List.{get_or-take, length-take-le, take_all, take_more}
+use Rattle.pp_flow.specs.Rows.{Way, free, onward, OrEnds}
 use Rattle.pp_bytes.specs.declared.fold.Fold.{Fold}
 use Rattle.pp_bytes.specs.Fold.{folded}
 use Rattle.pp_graph.specs.declared.node.Key.{Key}
@@ -12,8 +13,8 @@ use Rattle.pp_graph.specs.declared.node.Other.{Other}
 use Rattle.pp_event.specs.Run.{Config, Rests}
 use Rattle.pp_event.specs.Loops.{LeadsTo, AreBytes}
 use Rattle.pp_mean.specs.Nodes.{common, reach, best, goes_on, peek_turn, key_turn, rests_at, match_turn}
-use Rattle.pp_check.specs.steps.Ends.{Way, free, onward, GoesOnBy, IsLive, KeyBegins, PeekAt, IsKeyOf, StopsIn, KeyEnds, PeekEnds, OtherEnds, OrEnds}
-use Rattle.pp_check.proofs.ListLemmas.{any-at, any-listed, any-first, any-later, any-either, any-none}
+use Rattle.pp_check.specs.steps.Ends.{GoesOnBy, IsLive, KeyBegins, PeekAt, IsKeyOf, StopsIn, KeyEnds, PeekEnds, OtherEnds}
+use Rattle.pp_flow.proofs.ListLemmas.{any-at, any-listed, any-first, any-later, any-either, any-none}
 use Rattle.pp_check.proofs.CommonLemmas.{common-short, common-within, common-same, common-most, reach-most, reach-met, best-none, IsBest, best-some, goes-past}
 
 -- a turn that takes no byte is free, and one that takes bytes is onward

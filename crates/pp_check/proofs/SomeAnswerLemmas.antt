@@ -5,6 +5,7 @@ use Rattle.std.proofs.lemmas.Option.{slice_get_within}
 use Rattle.std.proofs.lemmas.Map.Steps.{length-le_from_distinct_below}
 use Rattle.pp_graph.specs.declared.node.Node.{Node}
 use Rattle.pp_graph.specs.Plan.{Plan}
+use Rattle.pp_event.proofs.FlowLemmas.{reached-byte}
 use Rattle.pp_event.specs.Loops.{Reaches, at_entry, FreeMove, FreeWay, stay, IsGap, LeadsTo}
 use Rattle.pp_mean.specs.Nodes.{node_turn}
 use Rattle.pp_mean.specs.Loops.{graph_moves, IsLoopFree, AnswerEdge}
@@ -14,7 +15,7 @@ use Rattle.pp_check.specs.Loops.{IsOnCycle, IsLeastLoop}
 use Rattle.pp_check.specs.Spans.{Reopens, ClosesShut, Mixes, HasNo, IsLeast, HasNoFault, SpansFit, MayBeOpen, TellsOpen}
 use Rattle.pp_check.specs.Checked.{IsFault, NoneBefore}
 use Rattle.pp_check.proofs.AbsurdLemmas.{either, least, most}
-use Rattle.pp_check.proofs.WayLemmas.{reaches_byte, nodes_of, nodes-length, row_of, left, distinct_of}
+use Rattle.pp_check.proofs.WayLemmas.{nodes_of, nodes-length, row_of, left, distinct_of}
 use Rattle.pp_check.proofs.MaskLemmas.{masks_some}
 
 -- the graph has this fault, which is one of the graph
@@ -29,7 +30,7 @@ least_loop g a node none_before first =
     let row = row_of (graph_moves g) a first.0.way (omega arith) in (
       row.0,
       record {
-        in_bytes = reaches_byte (graph_moves g) first.0.reached;
+        in_bytes = reached-byte (graph_moves g) first.0.reached;
         round = record {
           some = row.1.some;
           links = row.1.links;

@@ -2,14 +2,7 @@
 use Rattle.std.proofs.Common.{◌≡◌, ℕ, zero, suc, ◌-◌, ◌<◌, List, [], ◌∷◌, length, Bool, true, false, ◌||◌, eqb, refl, sym, ap, subst, arith, true≢false, slice_index}
 use Rattle.std.proofs.lemmas.Bool.{eqb-true}
 use Rattle.std.specs.List.{AllByRecursion, IsDistinct, list_any}
-use Rattle.pp_event.specs.Loops.{Moves, FreeMove, Reaches, at_entry, by_free, by_taking, by_pause, FreeWay, stay, onward, LoopFree}
-
--- the next byte is one
-pub reaches_byte : (m : Moves) {b node : ℕ} → Reaches m b node → b < 256
-reaches_byte m (at_entry h) = h
-reaches_byte m (by_free r f) = reaches_byte m r
-reaches_byte m (by_taking h r t) = h
-reaches_byte m (by_pause h r p) = h
+use Rattle.pp_event.specs.Loops.{Moves, FreeMove, Reaches, by_free, FreeWay, stay, onward, LoopFree}
 
 module _ (m : Moves) (b : ℕ) where
   -- the nodes that a way leaves, in order

@@ -23,7 +23,7 @@ use Rattle.pp_graph.specs.Plan.{Leads, Plan, AreDistinct, FitsIn, AreEdges, key_
 use Rattle.pp_graph.specs.Ranges.{KindInRange, KeyInRange, NodeInRange}
 use Rattle.pp_event.specs.Loops.{AreBytes}
 use Rattle.pp_check.specs.steps.Ends.{IsKeyOf}
-use Rattle.pp_check.proofs.ListLemmas.{any-listed, any-first, any-later}
+use Rattle.pp_flow.proofs.ListLemmas.{any-listed, any-first, any-later}
 use Rattle.pp_check.proofs.MatchLemmas.{KeysFit, PeeksFit}
 use Rattle.pp_check.proofs.KindLemmas.{KindFits}
 

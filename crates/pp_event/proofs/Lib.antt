@@ -16,4 +16,5 @@ pub mod MirrorLaws
 pub mod JoinerLaws
 pub mod PlaceLaws
 pub mod FunctionLaws
+pub mod FlowLemmas
 mod Rows

@@ -1,5 +1,5 @@
 -- Moves that take no byte, and machines in which they form no cycle.
-use Rattle.std.specs.Prelude.{◌≡◌, ℕ, zero, suc, ◌<◌, ◌≤◌, ◌^◌, List, [], ◌∷◌, ◌⊎◌, slice_index}
+use Rattle.std.specs.Prelude.{◌≡◌, ℕ, zero, suc, ◌-◌, ◌<◌, ◌≤◌, ◌^◌, List, [], ◌∷◌, ◌⊎◌, length, slice_index}
 use Rattle.std.specs.List.{Contains}
 use Rattle.pp_event.specs.Run.{Config, Turn, Goes, Asks, Rests, Stops, Fails, Machine, Stage}
 
@@ -53,6 +53,26 @@ pub data FreeWay (m : Moves) (b : ℕ) : ℕ → ℕ → ℕ → Type 0 where
 -- free moves between nodes that can be come to form no cycle
 abbrev pub LoopFree : Moves → Type 0
 LoopFree m = (b node n : ℕ) → Reaches m b node → FreeWay m b node (suc n) node → ⊥
+
+-- a node that can be come to with b next is on a cycle of free moves there
+pub record IsOnCycle (m : Moves) (b node : ℕ) : Type 0 where
+  pub reached : Reaches m b node
+  pub size : ℕ
+  pub way : FreeWay m b node (suc size) node
+
+-- free moves lead from each node to the next, and from the last to the first
+pub record IsCycle (m : Moves) (b : ℕ) (cycle : List ℕ) : Type 0 where
+  pub some : 0 < length cycle
+  pub links : (i : ℕ) → suc i < length cycle → FreeMove m b (slice_index cycle i) (slice_index cycle (suc i))
+  pub closes : FreeMove m b (slice_index cycle (length cycle - 1)) (slice_index cycle 0)
+
+-- the least byte that has a loop, and a cycle there that begins at the least node that is on any at that byte
+pub record IsLeastLoop (m : Moves) (byte : ℕ) (cycle : List ℕ) : Type 0 where
+  pub in_bytes : byte < 256
+  pub round : IsCycle m byte cycle
+  pub reached : Reaches m byte (slice_index cycle 0)
+  pub least_byte : (a node : ℕ) → a < byte → IsOnCycle m a node → ⊥
+  pub least_node : (node : ℕ) → node < slice_index cycle 0 → IsOnCycle m byte node → ⊥
 
 -- the greatest number of free moves in a row
 pub record IsGap (m : Moves) (gap : ℕ) : Type 0 where

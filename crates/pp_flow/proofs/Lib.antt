@@ -2,13 +2,16 @@ pub mod BitLemmas
 pub mod FaultLemmas
 pub mod GapLemmas
 pub mod JudgeLemmas
+pub mod ListLemmas
 pub mod MaskLemmas
 pub mod NumberLemmas
 pub mod PartLemmas
 pub mod RankingLemmas
 pub mod RoundLemmas
+pub mod RowLemmas
 pub mod SearchLemmas
 pub mod SpanLemmas
 pub mod SpreadLemmas
+pub mod StandingLemmas
 pub mod WalkLemmas
 pub mod WorkLemmas

@@ -1,17 +1,18 @@
 -- The rows of a program, state by state.
 use Rattle.std.proofs.Common.{subst, ◌≡◌, ◌↔◌, ℕ, zero, suc, ◌+◌, ◌<◌, ◌⊎◌, List, [], ◌∷◌, Option, Some, None, Bool, true, false, cond, refl, sym, ◌∙◌, ap, arith, length, map, take, get_or, inl, inr}
 use Rattle.std.specs.Prelude.{slice_get, slice_index_or}
-use Rattle.std.proofs.lemmas.Bool.{cases_lt}
 use Rattle.std.proofs.lemmas.List.{get_or_default}
 use Rattle.std.proofs.lemmas.Option.{slice_get-get_or}
 use Rattle.pp_bytes.specs.declared.fold.Fold.{Fold}
 use Rattle.pp_bytes.specs.Fold.{folded}
 use Rattle.pp_bytes.specs.Ranges.{in_ranges, in_pair}
+use Rattle.pp_flow.specs.Rows.{Way, free, onward, edge, OrEnds, DeadEnds, FreeEnds, Adds, Rowed}
 use Rattle.pp_flow.specs.Chart.{Chart, with_point}
 use Rattle.pp_flow.specs.Spans.{HaveSpans, act_at}
 use Rattle.pp_flow.specs.declared.moves.Act.{Act}
 use Rattle.pp_flow.specs.declared.moves.Act.TheVariants as act
 use Rattle.pp_graph.specs.declared.node.Answer.{Answer}
+use Rattle.pp_program.specs.Spans.{act_of, act_by}
 use Rattle.pp_program.specs.declared.program.Edge.{Edge}
 use Rattle.pp_program.specs.declared.program.Rest.{Rest}
 use Rattle.pp_program.specs.declared.program.Instr.{Instr}
@@ -19,10 +20,11 @@ use Rattle.pp_program.specs.declared.program.Instr.TheVariants.{Branch, Invoke, 
 use Rattle.pp_program.specs.declared.program.State.{State}
 use Rattle.pp_program.specs.declared.program.Program.{Program}
 use Rattle.pp_program.specs.States.{edge_on}
-use Rattle.pp_program.specs.steps.Ends.{Way, free, onward, edge, OrEnds, EdgeEnds, DeadEnds, AnswerEnds, FreeEnds, EndsAt, EndsOf, edge_step, step_on}
-use Rattle.pp_program.specs.steps.Rows.{Rowed, TellsBelow, IsFlowOf, IsSound, LeadsWithin, SpanWithin, act_of, act_by}
-use Rattle.pp_program.proofs.ListLemmas.{any-more}
-use Rattle.pp_program.proofs.RowLemmas.{rowed-then, rowed-same}
+use Rattle.pp_program.specs.steps.Ends.{EdgeEnds, AnswerEnds, EndsAt, EndsOf, ends_of, edge_step, step_on}
+use Rattle.pp_program.specs.steps.Rows.{TellsBelow, IsFlowOf, IsSound, LeadsWithin, SpanWithin}
+use Rattle.pp_flow.proofs.ListLemmas.{any-more}
+use Rattle.pp_flow.proofs.RowLemmas.{rowed-then, rowed-same}
+use Rattle.pp_flow.proofs.RowLemmas as rows
 
 -- one edge more
 pub edges-more : (a b c : Chart) (edges : List Edge) (i : ℕ) (d : Edge) → i < length edges → Rowed a b (EdgeEnds (take i edges)) → Rowed b c (DeadEnds (slice_index_or edges i d).target) →
@@ -113,18 +115,8 @@ have-spans p acts are sound x s e =
 -- one state more
 pub tells-more : (states : List State) (s : State) (a b : Chart) → slice_get states a.told ≡ Some s → TellsBelow states a.told a.moves → Rowed a b (EndsOf a.told s.instr) →
     TellsBelow states (suc a.told) b.moves
-tells-more states s a b at tells f way x from next low = (
-  (λ h. elim ((f.adds way x from next low).0 h) [
-    | inl old ↦ (let q = (tells way x from next low).0 old in (omega (arith, q.0), q.1))
-    | inr new ↦ (omega (arith, new.0), subst (λ (n : ℕ). EndsAt n (slice_get states n) way x next) (sym new.0) (subst (λ (o : Option State). EndsAt a.told o way x next) (sym at) new.1))
-  ]),
-  (λ h. elim (cases_lt from a.told) [
-    | inl less ↦ (f.adds way x from next low).1 (inl ((tells way x from next low).1 (less, h.1)))
-    | inr more ↦
-        let same : from ≡ a.told = omega (arith, h.0, more) in
-        (f.adds way x from next low).1 (inr (same, subst (λ (o : Option State). EndsAt a.told o way x next) at (subst (λ (n : ℕ). EndsAt n (slice_get states n) way x next) same h.1)))
-  ]),
-)
+tells-more states s a b at tells f =
+    rows.tells-more (ends_of states) a.told a.moves b.moves tells (subst (λ (o : Option State). Adds a.told a.moves b.moves (EndsAt a.told o)) (sym at) f.adds)
 
 listed-at : (items states : List State) (i : ℕ) (d : State) → items ≡ states → i < length items → slice_get states i ≡ Some (get_or items i d)
 listed-at items states i d is low = subst (λ (xs : List State). slice_get xs i ≡ Some (get_or items i d)) is (slice_get-get_or items i d low)

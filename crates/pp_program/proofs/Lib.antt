@@ -1,5 +1,4 @@
 pub mod StateTurns
-pub mod ListLemmas
 pub mod LeastLemmas
 pub mod NameLemmas
 pub mod RowLemmas

@@ -3,6 +3,7 @@ use Rattle.std.proofs.Common.{subst, ◌≡◌, ℕ, zero, suc, ◌<◌, ◌⊎�
 use Rattle.std.specs.Prelude.{slice_get, slice_index, nat_le, ◌==◌, find, unwrap_or}
 use Rattle.std.specs.List.{Any}
 use Rattle.std.proofs.lemmas.List.{get_or-replicate}
+use Rattle.pp_flow.specs.Rows.{Way, free, onward}
 use Rattle.pp_bytes.specs.declared.fold.Fold.{Fold}
 use Rattle.pp_bytes.specs.Fold.{folded}
 use Rattle.pp_bytes.specs.Ranges.{in_ranges}
@@ -20,8 +21,8 @@ use Rattle.pp_event.specs.Codes.{target_or, answered, effect_of}
 use Rattle.pp_event.specs.Loops.{LeadsTo, Leads, FreeMove, TakingMove, PauseMove, AreBytes}
 use Rattle.pp_program.specs.States.{edge_on, edge_turn, branch_turn, rest_turn, is_empty_branch, instr_turn, state_turn, program_turn}
 use Rattle.pp_program.specs.Moves.{AnswersWith, AnswerEdge, program_moves}
-use Rattle.pp_program.specs.steps.Ends.{Way, free, onward, EndsOf, EndsAt, StepEnds, edge_step, step_on}
-use Rattle.pp_program.proofs.ListLemmas.{any-first, any-later}
+use Rattle.pp_program.specs.steps.Ends.{EndsOf, EndsAt, StepEnds, edge_step, step_on}
+use Rattle.pp_flow.proofs.ListLemmas.{any-first, any-later}
 
 -- by a move that takes so many bytes
 abbrev pub way_of : ℕ → Way

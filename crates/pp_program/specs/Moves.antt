@@ -1,12 +1,13 @@
 -- The moves of a program, and the programs in which those that take no byte form no cycle.
-use Rattle.std.specs.Prelude.{◌≡◌, ◌⊎◌, ℕ, suc, Option, Some, None, slice_get}
+use Rattle.std.specs.Prelude.{◌≡◌, ◌⊎◌, ℕ, Option, Some, None, slice_get}
 use Rattle.std.specs.List.{Any}
 use Rattle.pp_graph.specs.declared.node.Answer.{Answer}
 use Rattle.pp_program.specs.declared.program.Instr.{Instr}
 use Rattle.pp_program.specs.declared.program.Instr.TheVariants.{Branch, Invoke, Consume, SpanOpen, SpanClose, Pause, Fail}
 use Rattle.pp_program.specs.declared.program.State.{State}
 use Rattle.pp_program.specs.declared.program.Program.{Program}
-use Rattle.pp_event.specs.Loops.{Moves, LoopFree, Reaches, FreeWay}
+use Rattle.pp_event.specs.Loops.{Moves, LoopFree}
+use Rattle.pp_event.specs.Loops as loops
 use Rattle.pp_program.specs.States.{program_turn}
 
 -- an answer edge of an invoke, or its other one, leads to this state
@@ -33,8 +34,5 @@ abbrev pub IsLoopFree : Program → Type 0
 IsLoopFree p = LoopFree (program_moves p)
 
 -- a state that can be come to with some byte next is on a cycle of free moves there
-pub record IsOnCycle (p : Program) (state : ℕ) : Type 0 where
-  pub byte : ℕ
-  pub reached : Reaches (program_moves p) byte state
-  pub size : ℕ
-  pub way : FreeWay (program_moves p) byte state (suc size) state
+abbrev pub IsOnCycle : Program → ℕ → Type 0
+IsOnCycle p state = (byte : ℕ) × loops.IsOnCycle (program_moves p) byte state

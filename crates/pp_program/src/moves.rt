@@ -1,10 +1,12 @@
 // The flow of a program: its moves as rows.
 ghost use Rattle.std.specs.Prelude.{◌≡◌, ◌<◌, ◌≤◌, not, ℕ, length, OnOk, IfOk, map, slice_get, Some};
+ghost use Rattle.pp_flow.specs.Rows.{OrEnds, DeadEnds, FreeEnds, BothEnds, Rowed, RowEnds};
 ghost use Rattle.pp_program.specs.declared.program.State.{State};
 ghost use Rattle.pp_graph.specs.declared.node.Answer.{Answer};
+ghost use Rattle.pp_program.specs.Spans.{act_of as act_of_instr};
 ghost use Rattle.pp_program.specs.declared.program.Edge.{Edge};
-ghost use Rattle.pp_program.specs.steps.Ends.{step_on as step_on_of, OrEnds, StepsBelow, EdgeEnds, DeadEnds, AnswerEnds, FreeEnds, BothEnds, EndsOf};
-ghost use Rattle.pp_program.specs.steps.Rows.{Rowed, MoveEnds, LeadsWithin, IsSound, IsFlowOf, act_of as act_of_instr};
+ghost use Rattle.pp_program.specs.steps.Ends.{step_on as step_on_of, StepsBelow, EdgeEnds, AnswerEnds, EndsOf};
+ghost use Rattle.pp_program.specs.steps.Rows.{LeadsWithin, IsSound, IsFlowOf};
 
 use crate::branch::{Step, step_on};
 use crate::program::{Edge, Instr, Program, Rest, State};
@@ -18,7 +20,7 @@ fn push(flow: &mut Flow, row: Move) -> Result<(), AllocError>
     requires from { row.from ≡ flow.old.told }
     requires told { flow.old.told < length flow.old.acts }
     requires to { row.to < length flow.old.acts }
-    ensures { OnOk result (Rowed flow.old flow.new (MoveEnds row)) }
+    ensures { OnOk result (Rowed flow.old flow.new (RowEnds row)) }
 {
     flow.push(row)
 }

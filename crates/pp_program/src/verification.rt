@@ -2,6 +2,7 @@
 ghost use Rattle.std.specs.Prelude.{◌≡◌, ◌<◌, ◌≤◌, length, IfOk, IfErr, OnOk};
 ghost use Rattle.pp_event.specs.Loops.{IsGap};
 ghost use Rattle.pp_program.specs.declared.fault.VerifyRule.TheVariants as rules;
+ghost use Rattle.pp_flow.specs.Standing.{node_of as node_of_fault};
 ghost use Rattle.pp_flow.specs.Flow.{IsLoopFree};
 ghost use Rattle.pp_program.specs.Countable.{IsCountable};
 ghost use Rattle.pp_program.specs.Moves.{program_moves};
@@ -9,7 +10,7 @@ ghost use Rattle.pp_program.specs.Spans.{TellsOpen};
 ghost use Rattle.pp_program.specs.Names.{TextFails};
 ghost use Rattle.pp_program.specs.steps.Least.{IsFirst};
 ghost use Rattle.pp_program.specs.Valid.{Holds, HoldBefore, IsFault, IsVerified, HasRanks};
-ghost use Rattle.pp_program.specs.steps.Rows.{IsFlowOf, IsSound, Counts, node_of as node_of_fault};
+ghost use Rattle.pp_program.specs.steps.Rows.{IsFlowOf, IsSound, Counts};
 
 use crate::fault::{VerifyFault, VerifyRule};
 use crate::moves::flow_of;

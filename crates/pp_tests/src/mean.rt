@@ -182,7 +182,7 @@ fn run_of(
 }
 
 // The graph whose text has these statements in its only line.
-fn graph_of(alloc: Global, statements: &str) -> Result<Graph, Fail> {
+pub(crate) fn graph_of(alloc: Global, statements: &str) -> Result<Graph, Fail> {
     let text = format!(in alloc; "graph 1;{statements};end")?;
     let (graph, _) = read_graph(alloc, text.as_bytes())?;
     Ok(graph)

@@ -8,6 +8,7 @@ use std::marker::Brand;
 use std::sync::ledger::{Blank, Ledger};
 use std::test::Fail;
 
+mod check;
 mod print;
 mod trace;
 
@@ -231,7 +232,7 @@ const FOLDED: &str = "graph 1\nentry s\nnode s match lower\nskip -> s\nend\n";
 
 // A command, how an input begins that goes on in blanks, how many bytes it has, how many of them follow its front, and how
 // it is refused: each time the front was taken, and no byte more. A line that goes on past the front is too long.
-const TAKEN: [(&str, &str, usize, usize, Status, &str); 6] = [
+const TAKEN: [(&str, &str, usize, usize, Status, &str); 7] = [
     (
         "trace",
         "x\n",
@@ -266,6 +267,14 @@ const TAKEN: [(&str, &str, usize, usize, Status, &str); 6] = [
     ),
     ("trace", FOLDED, 99, 0, Status::Check, "check: not yet\n"),
     (
+        "check",
+        "x\n",
+        FRONT + 7,
+        7,
+        Status::Graph,
+        "graph: line 1: syntax\n",
+    ),
+    (
         "print",
         FOLDED,
         99,
@@ -298,7 +307,7 @@ fn a_refusal_leaves_what_follows_the_front(rt: HostRuntime) -> Result<(), Fail> 
 #[test]
 fn a_wrong_line_yields_to_a_read_that_fails_after_it(rt: HostRuntime) -> Result<(), Fail> {
     let alloc = rt.alloc();
-    for word in ["trace", "print"] {
+    for word in ["trace", "check", "print"] {
         let outside = Outside {
             read_fails: &[1],
             most: 10,

@@ -114,10 +114,11 @@ abbrev letter_of : List (List ℕ) → ℕ
 letter_of words = get_or (get_or words 0 []) 0 0
 
 abbrev command_by : ℕ → Option Command
-command_by letter = cond (letter == 116) (Some command.Trace) (cond (letter == 112) (Some command.Print) None)
+command_by letter = cond (letter == 116) (Some command.Trace) (cond (letter == 99) (Some command.Check) (cond (letter == 112) (Some command.Print) None))
 
 told_by : (a : Command) → command_by (letter_of (words_of a)) ≡ Some a
 told_by command.Trace = refl
+told_by command.Check = refl
 told_by command.Print = refl
 
 some_is : (a b : Command) → Some a ≡ Some b → a ≡ b

@@ -1,5 +1,7 @@
 pub mod AloneLemmas
 pub mod CaptureLemmas
+pub mod CheckLemmas
+pub mod CheckLaws
 pub mod CommandLemmas
 pub mod FaultLemmas
 pub mod FrontLemmas

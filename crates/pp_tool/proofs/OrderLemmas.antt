@@ -8,12 +8,15 @@ use Rattle.pp_tool.specs.declared.refusal.Refusal.TheVariants as refusal
 use Rattle.pp_tool.specs.declared.stop.Stop.{Stop}
 use Rattle.pp_tool.specs.declared.stop.Stop.TheVariants as stop
 use Rattle.pp_tool.specs.Verdict.{Gives, IsOnly, Test, Stops}
-use Rattle.pp_tool.specs.Capture.{IsCapture, joined}
+use Rattle.pp_tool.specs.Capture.{IsCapture}
 use Rattle.pp_tool.specs.GraphText.{Begun}
-use Rattle.pp_tool.specs.Trace.{capture_limit, HasShortRest, RunsInLoop, IsTraced}
+use Rattle.pp_tool.specs.Checks.{IsAccepted}
+use Rattle.pp_tool.specs.Trace.{capture_limit, HasShortRest, IsTraced}
 use Rattle.pp_tool.specs.steps.Reading.{IsTheGraph, IsTakenStop}
+use Rattle.pp_tool.specs.steps.Checking.{IsCheckStop}
 use Rattle.pp_tool.specs.steps.Stops.{IsNoRefusal}
 use Rattle.pp_tool.proofs.VerdictLemmas.{err_is}
+use Rattle.pp_tool.proofs.CheckLemmas.{not_accepted}
 
 -- an error that `?` hands on
 pub not_refused : {A : Type 0} (result : Result A Stop) (s : Stop) → IsErrAnd result (λ x. x ≡ s) → IsNoRefusal s → IfErr result IsNoRefusal
@@ -46,11 +49,13 @@ module _ (bytes : List ℕ) (g : Plan) (last : ℕ) (rest : List ℕ) (the : IsT
   order_rest stop.WriteFault h = tt
   order_rest stop.NoMemory h = tt
 
-  -- and is a capture whose run comes to no node twice
+  -- and is a capture
   pub order_capture : (kept : List ℕ) → IsOnly (Test HasShortRest refusal.TooLong (g, rest)) (Gives (g, kept)) → IsCapture kept order.parts
   order_capture kept only =
       let kept_is : kept ≡ rest = ap (λ (b : Begun). b.1) only.0.1 in
       subst (λ (r : List ℕ). IsCapture r order.parts) (same_rest ∙ sym kept_is) order.capture
 
-  pub order_run : ¬ (RunsInLoop g (joined order.parts))
-  order_run = subst (λ (h : Plan). ¬ (RunsInLoop h (joined order.parts))) same_graph order.no_loop
+  -- the checks do not fail
+  pub order_checks : (s : Stop) → IsCheckStop g s → IsNoRefusal s
+  order_checks s (inl e) = subst IsNoRefusal (sym e) tt
+  order_checks s (inr h) = absurd (not_accepted g h.0 (subst IsAccepted same_graph order.graph.accepted) h.2)

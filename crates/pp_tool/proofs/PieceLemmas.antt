@@ -1,5 +1,5 @@
 -- Writes to a sink, one after the other, and what a sink that tells its bytes holds then.
-use Rattle.std.proofs.Common.{◌≡◌, ℕ, ◌+◌, ◌≤◌, inl, inr, List, [], ◌++◌, length, take, Option, sym, ◌∙◌, ap, subst, arith, append_assoc}
+use Rattle.std.proofs.Common.{◌≡◌, ℕ, ◌+◌, ◌≤◌, inl, inr, List, [], ◌∷◌, ◌++◌, length, take, Option, sym, ◌∙◌, ap, subst, arith, append_assoc}
 use Rattle.std.specs.Prelude.{codes, decimal}
 use Rattle.std.proofs.lemmas.List.{append-nil, length-append, take-append-le}
 use Rattle.std.proofs.Math.Seq.{take-append-add}
@@ -7,7 +7,8 @@ use Rattle.pp_outside.specs.Faults.{Rose}
 use Rattle.pp_outside.specs.Sink.{Adds, AddsSome}
 use Rattle.pp_outside.proofs.AddsLemmas.{Adds-then}
 use Rattle.pp_tool.specs.declared.refusal.GraphReason.TheVariants.{WrongLine}
-use Rattle.pp_tool.specs.Answers.{graph_line}
+use Rattle.hex.specs.Hex.{encode_lower}
+use Rattle.pp_tool.specs.Answers.{graph_line, loop_line, span_line}
 use Rattle.pp_tool.specs.steps.Stops.{line_with}
 
 -- some front of what comes behind is some front of the whole
@@ -39,3 +40,15 @@ line_of_pieces a b c d e line ea eb ec ee =
 pub line_with-syntax : (line : ℕ) → line_with line (codes "syntax") ≡ graph_line (WrongLine line)
 line_with-syntax line =
     append_assoc (codes "graph: line " ++ decimal line ++ codes ": ") (codes "syntax") (codes "\n") ∙ append_assoc (codes "graph: line " ++ decimal line) (codes ": ") (codes "syntax" ++ codes "\n")
+
+-- the line of a loop
+pub loop_pieces : (a node c digits e : List ℕ) (byte : ℕ) → a ≡ codes "check: loop at " → c ≡ codes " on byte " → digits ≡ encode_lower (byte ∷ []) → e ≡ codes "\n" →
+    a ++ (node ++ (c ++ (digits ++ (e ++ [])))) ≡ loop_line node byte
+loop_pieces a node c digits e byte ea ec ed ee =
+    five a node c digits e ∙ ap (λ x. x ++ node ++ c ++ digits ++ e) ea ∙ ap (λ x. codes "check: loop at " ++ node ++ x ++ digits ++ e) ec
+    ∙ ap (λ x. codes "check: loop at " ++ node ++ codes " on byte " ++ x ++ e) ed ∙ ap (λ x. codes "check: loop at " ++ node ++ codes " on byte " ++ encode_lower (byte ∷ []) ++ x) ee
+
+-- and of a fault of spans
+pub span_pieces : (a span what node e : List ℕ) → a ≡ codes "check: span " → e ≡ codes "\n" → a ++ (span ++ (what ++ (node ++ (e ++ [])))) ≡ span_line span what node
+span_pieces a span what node e ea ee =
+    five a span what node e ∙ ap (λ x. x ++ span ++ what ++ node ++ e) ea ∙ ap (λ x. codes "check: span " ++ span ++ what ++ node ++ x) ee

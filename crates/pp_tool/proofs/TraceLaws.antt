@@ -1,7 +1,6 @@
 -- What a verdict of `trace` says of the input, and each fact of the input gives its verdict.
 use Rattle.std.proofs.Common.{◌≡◌, ℕ, ◌<◌, ◌≤◌, ◌⊎◌, inl, inr, ◌↔◌, List, [], length, refl, sym, ap, subst, ◌∙◌, arith}
 use Rattle.pp_graph.specs.Plan.{Plan}
-use Rattle.pp_mean.specs.Plain.{IsPlain}
 use Rattle.pp_tool.specs.declared.refusal.GraphReason.{GraphReason}
 use Rattle.pp_tool.specs.declared.refusal.CheckReason.{CheckReason}
 use Rattle.pp_tool.specs.declared.refusal.CheckReason.TheVariants as check
@@ -11,11 +10,12 @@ use Rattle.pp_tool.specs.declared.status.Status.{Status}
 use Rattle.pp_tool.specs.declared.status.Status.TheVariants as status
 use Rattle.pp_tool.specs.Answers.{ComesWhere}
 use Rattle.pp_tool.specs.Verdict.{Outcome, Gives, Refuses, Verdict, Then, Test, status_by}
-use Rattle.pp_tool.specs.Facts.{FailsCheck, HasLongRest, HasNoCapture}
+use Rattle.pp_tool.specs.Facts.{HasOtherGraph, FailsCheck, HasLongRest, HasNoCapture}
 use Rattle.pp_tool.proofs.StatusLemmas.{IsAnswered, found, bare, graph_no_fault, check_no_fault, too_long_no_fault, capture_no_fault}
 use Rattle.pp_tool.specs.Capture.{IsCapture, joined}
 use Rattle.pp_tool.specs.GraphText.{Begun, BeginsWithGraph, ReadsText, HasNoGraph}
-use Rattle.pp_tool.specs.Trace.{capture_limit, BeginsWithPlain, RunsInLoop, HasPlain, HasShortRest, ReadsCapture, Reports, OnShort, OnPlain, OnGraph, Traces, HasReport}
+use Rattle.pp_tool.specs.Checks.{IsAccepted, Checks}
+use Rattle.pp_tool.specs.Trace.{capture_limit, BeginsWithPlain, HasPlain, HasShortRest, ReadsCapture, Reports, OnShort, OnPlain, OnAccepted, OnGraph, Traces, HasReport}
 
 -- lines come of each stage's handing on
 pub gives_of : {A B C : Type 0} (first : A → Outcome B → Type 0) (next : B → Outcome C → Type 0) (a : A) (c : C) → Then first next a (Gives c) → (b : B) × first a (Gives b) × next b (Gives c)
@@ -25,10 +25,11 @@ gives_of first next a c (inr h) = absurd (let e = h.3 in cc)
 pub traced : (bytes lines : List ℕ) → Traces bytes (Gives lines) → HasReport bytes lines
 traced bytes lines h =
     let one = gives_of ReadsText OnGraph bytes lines h in
-    let two = gives_of (Test HasPlain (refusal.Check check.NotYet)) OnPlain one.0 lines one.2 in
+    let checks = gives_of (Checks (λ (b : Begun). b.0)) OnAccepted one.0 lines one.2 in
+    let two = gives_of (Test HasPlain (refusal.Check check.NotYet)) OnPlain checks.0 lines checks.2 in
     let three = gives_of (Test HasShortRest refusal.TooLong) OnShort two.0 lines two.2 in
     let four = gives_of ReadsCapture Reports three.0 lines three.2 in
-    let same : three.0 ≡ one.0 = three.1.1 ∙ two.1.1 in
+    let same : three.0 ≡ one.0 = three.1.1 ∙ two.1.1 ∙ checks.1.1 in
     let out : four.0 ≡ (one.0.0, joined four.1.0) = four.1.2 ∙ ap (λ (b : Begun). (b.0, joined four.1.0)) same in
     let last = subst (λ b. Reports b (Gives lines)) out four.2 in
     record {
@@ -36,10 +37,10 @@ traced bytes lines h =
       rest = one.0.1;
       parts = four.1.0;
       result = last.0;
-      graph = record { last = one.1.0; graph = one.1.1; plain = two.1.0 };
+      graph = record { last = one.1.0; graph = one.1.1; accepted = checks.1.0; plain = subst HasPlain checks.1.1 two.1.0 };
       capture = subst (λ (b : Begun). IsCapture b.1 four.1.0) same four.1.1;
       run = last.1;
-      lines = last.3;
+      lines = last.2;
     }
 
 -- a refusal comes of one of the two stages
@@ -71,61 +72,54 @@ TraceCause bytes refusal.Capture = HasNoCapture bytes
 abbrev Cause : List ℕ → Refusal → List ℕ → Type 0
 Cause bytes r before = TraceCause bytes r × (before ≡ [])
 
-by_run : (bytes : List ℕ) (g : Plan) (last : ℕ) (rest string : List ℕ) (parts : List (List ℕ)) (r : Refusal) (before : List ℕ) → BeginsWithGraph bytes g last rest → IsPlain g → length rest ≤ capture_limit →
-    IsCapture rest parts → string ≡ joined parts → Reports (g, string) (Refuses r before) → Cause bytes r before
-by_run bytes g last rest string parts r before text plain short is e h =
-    subst (λ q. Cause bytes q before) (sym h.1) (
-      record {
-        g = g;
-        rest = rest;
-        parts = parts;
-        graph = record { last = last; graph = text; plain = plain };
-        short = short;
-        capture = is;
-        loop = subst (RunsInLoop g) e h.0;
-      },
-      h.2,
-    )
-
-by_short : (bytes : List ℕ) (g : Plan) (last : ℕ) (rest : List ℕ) (r : Refusal) (before : List ℕ) → BeginsWithGraph bytes g last rest → IsPlain g → length rest ≤ capture_limit →
+by_short : (bytes : List ℕ) (g : Plan) (rest : List ℕ) (r : Refusal) (before : List ℕ) → BeginsWithPlain bytes g rest → length rest ≤ capture_limit →
     RefusedBy ReadsCapture Reports (g, rest) r before → Cause bytes r before
-by_short bytes g last rest r before text plain short (inl h) =
-    subst (λ q. Cause bytes q before) (sym h.1) (record { g = g; rest = rest; graph = record { last = last; graph = text; plain = plain }; short = short; none = h.0 }, h.2)
-by_short bytes g last rest r before text plain short (inr h) =
-    by_run bytes g last rest (joined h.1.0) h.1.0 r before text plain short h.1.1 refl (subst (λ b. Reports b (Refuses r before)) h.1.2 h.2)
+by_short bytes g rest r before begins short (inl h) =
+    subst (λ q. Cause bytes q before) (sym h.1) (record { g = g; rest = rest; graph = begins; short = short; none = h.0 }, h.2)
+by_short bytes g rest r before begins short (inr h) = absurd h.2
 
-by_plain : (bytes : List ℕ) (g : Plan) (last : ℕ) (rest : List ℕ) (r : Refusal) (before : List ℕ) → BeginsWithGraph bytes g last rest → IsPlain g →
+by_plain : (bytes : List ℕ) (g : Plan) (rest : List ℕ) (r : Refusal) (before : List ℕ) → BeginsWithPlain bytes g rest →
     RefusedBy (Test HasShortRest refusal.TooLong) OnShort (g, rest) r before → Cause bytes r before
-by_plain bytes g last rest r before text plain (inl h) =
-    subst (λ q. Cause bytes q before) (sym h.1) (record { g = g; rest = rest; graph = record { last = last; graph = text; plain = plain }; long = not_le h.0 }, h.2)
-by_plain bytes g last rest r before text plain (inr h) =
-    by_short bytes g last rest r before text plain h.1.0 (refused_by ReadsCapture Reports (g, rest) r before (subst (λ b. OnShort b (Refuses r before)) h.1.1 h.2))
+by_plain bytes g rest r before begins (inl h) =
+    subst (λ q. Cause bytes q before) (sym h.1) (record { g = g; rest = rest; graph = begins; long = not_le h.0 }, h.2)
+by_plain bytes g rest r before begins (inr h) =
+    by_short bytes g rest r before begins h.1.0 (refused_by ReadsCapture Reports (g, rest) r before (subst (λ b. OnShort b (Refuses r before)) h.1.1 h.2))
+
+by_accepted : (bytes : List ℕ) (g : Plan) (last : ℕ) (rest : List ℕ) (r : Refusal) (before : List ℕ) → BeginsWithGraph bytes g last rest → IsAccepted g →
+    RefusedBy (Test HasPlain (refusal.Check check.NotYet)) OnPlain (g, rest) r before → Cause bytes r before
+by_accepted bytes g last rest r before text accepted (inl h) =
+    subst (λ q. Cause bytes q before) (sym h.1) (inl (refl, record { g = g; last = last; rest = rest; graph = text; accepted = accepted; other = h.0 }), h.2)
+by_accepted bytes g last rest r before text accepted (inr h) =
+    by_plain bytes g rest r before (record { last = last; graph = text; accepted = accepted; plain = h.1.0 })
+    (refused_by (Test HasShortRest refusal.TooLong) OnShort (g, rest) r before (subst (λ b. OnPlain b (Refuses r before)) h.1.1 h.2))
 
 by_graph : (bytes : List ℕ) (g : Plan) (last : ℕ) (rest : List ℕ) (r : Refusal) (before : List ℕ) → BeginsWithGraph bytes g last rest →
-    RefusedBy (Test HasPlain (refusal.Check check.NotYet)) OnPlain (g, rest) r before → Cause bytes r before
+    RefusedBy (Checks (λ (b : Begun). b.0)) OnAccepted (g, rest) r before → Cause bytes r before
 by_graph bytes g last rest r before text (inl h) =
-    subst (λ q. Cause bytes q before) (sym h.1) (record { g = g; last = last; rest = rest; graph = text; other = h.0 }, h.2)
+    subst (λ q. Cause bytes q before) (sym h.2) (inr (record { g = g; last = last; rest = rest; graph = text; fails = h.1 }), h.3)
 by_graph bytes g last rest r before text (inr h) =
-    by_plain bytes g last rest r before text h.1.0 (refused_by (Test HasShortRest refusal.TooLong) OnShort (g, rest) r before (subst (λ b. OnPlain b (Refuses r before)) h.1.1 h.2))
+    by_accepted bytes g last rest r before text h.1.0 (refused_by (Test HasPlain (refusal.Check check.NotYet)) OnPlain (g, rest) r before (subst (λ b. OnAccepted b (Refuses r before)) h.1.1 h.2))
 
 by_text : (bytes : List ℕ) (r : Refusal) (before : List ℕ) → RefusedBy ReadsText OnGraph bytes r before → Cause bytes r before
 by_text bytes r before (inl h) = subst (λ q. Cause bytes q before) (sym h.2) (h.1, h.3)
-by_text bytes r before (inr h) = by_graph bytes h.0.0 h.1.0 h.0.1 r before h.1.1 (refused_by (Test HasPlain (refusal.Check check.NotYet)) OnPlain h.0 r before h.2)
+by_text bytes r before (inr h) = by_graph bytes h.0.0 h.1.0 h.0.1 r before h.1.1 (refused_by (Checks (λ (b : Begun). b.0)) OnAccepted h.0 r before h.2)
 
 pub trace_cause : (bytes : List ℕ) (r : Refusal) (before : List ℕ) → Traces bytes (Refuses r before) → Cause bytes r before
 trace_cause bytes r before h = by_text bytes r before (refused_by ReadsText OnGraph bytes r before h)
 
 -- and back
 plain_text : (bytes : List ℕ) (g : Plan) (rest : List ℕ) (v : Verdict) → BeginsWithPlain bytes g rest → OnPlain (g, rest) v → Traces bytes v
-plain_text bytes g rest v b h = inl ((g, rest), (b.last, b.graph), inl ((g, rest), (b.plain, refl), h))
+plain_text bytes g rest v b h = inl ((g, rest), (b.last, b.graph), inl ((g, rest), (b.accepted, refl), inl ((g, rest), (b.plain, refl), h)))
 
 short_text : (bytes : List ℕ) (g : Plan) (rest : List ℕ) (v : Verdict) → BeginsWithPlain bytes g rest → length rest ≤ capture_limit → OnShort (g, rest) v → Traces bytes v
 short_text bytes g rest v b short h = plain_text bytes g rest v b (inl ((g, rest), (short, refl), h))
 
+other_back : (bytes : List ℕ) → HasOtherGraph bytes → Traces bytes (Refuses (refusal.Check check.NotYet) [])
+other_back bytes h = inl ((h.g, h.rest), (h.last, h.graph), inl ((h.g, h.rest), (h.accepted, refl), inr (refusal.Check check.NotYet, [], (h.other, refl, refl), refl)))
+
 check_back : (bytes : List ℕ) (reason : CheckReason) → FailsCheck bytes reason → Traces bytes (Refuses (refusal.Check reason) [])
-check_back bytes check.NotYet h = inl ((h.g, h.rest), (h.last, h.graph), inr (refusal.Check check.NotYet, [], (h.other, refl, refl), refl))
-check_back bytes check.Loops h =
-    short_text bytes h.g h.rest (Refuses (refusal.Check check.Loops) []) h.graph h.short (inl ((h.g, joined h.parts), (h.parts, h.capture, refl), (h.loop, refl, refl)))
+check_back bytes reason (inl h) = subst (λ (r : CheckReason). Traces bytes (Refuses (refusal.Check r) [])) (sym h.0) (other_back bytes h.1)
+check_back bytes reason (inr h) = inl ((h.g, h.rest), (h.last, h.graph), inr (refusal.Check reason, [], (reason, h.fails, refl, refl), refl))
 
 cause_back : (bytes : List ℕ) (r : Refusal) → TraceCause bytes r → Traces bytes (Refuses r [])
 cause_back bytes (refusal.Graph why) h = inr (refusal.Graph why, [], (why, h, refl, refl), refl)

@@ -1,8 +1,8 @@
 -- The answers of a command: their numbers, their lines on the errors sink, and when one comes.
-use Rattle.std.specs.Prelude.{◌≡◌, ℕ, ◌≤◌, ◌⊎◌, List, [], ◌++◌, Option, Some, codes, decimal, length, take}
+use Rattle.std.specs.Prelude.{◌≡◌, ℕ, ◌≤◌, ◌⊎◌, List, [], ◌∷◌, ◌++◌, Option, Some, codes, decimal, length, take}
+use Rattle.hex.specs.Hex.{encode_lower}
 use Rattle.pp_outside.specs.Faults.{Rose}
-use Rattle.pp_rules.specs.declared.rules.GraphRule.{GraphRule}
-use Rattle.pp_rules.specs.declared.rules.GraphRule.TheVariants as rule
+use Rattle.pp_rules.specs.Rules.Texts.{text_of}
 use Rattle.pp_tool.specs.declared.refusal.GraphReason.{GraphReason}
 use Rattle.pp_tool.specs.declared.refusal.GraphReason.TheVariants as reason
 use Rattle.pp_tool.specs.declared.refusal.CheckReason.{CheckReason}
@@ -29,20 +29,6 @@ number_of status.WriteFault = 8
 number_of status.NoMemory = 9
 number_of status.TooLong = 10
 
--- the text of a rule
-abbrev pub rule_text : GraphRule → List ℕ
-rule_text rule.DuplicateName = codes "duplicate name"
-rule_text rule.UnknownName = codes "unknown name"
-rule_text rule.NoEntry = codes "no entry"
-rule_text rule.NoOtherwise = codes "no otherwise"
-rule_text rule.KeyClash = codes "key clash"
-rule_text rule.PrefixGap = codes "prefix gap"
-rule_text rule.ValueTarget = codes "value target"
-rule_text rule.ValueTooWide = codes "value too wide"
-rule_text rule.EmptyKey = codes "empty key"
-rule_text rule.KeyNotFolded = codes "key not folded"
-rule_text rule.TooMany = codes "too many"
-
 -- the line where the words are no command
 abbrev pub words_line : List ℕ
 words_line = codes "words: no such command\n"
@@ -51,12 +37,23 @@ words_line = codes "words: no such command\n"
 abbrev pub graph_line : GraphReason → List ℕ
 graph_line reason.LongLine = codes "graph: too long\n"
 graph_line (reason.WrongLine line) = codes "graph: line " ++ decimal line ++ codes ": syntax\n"
-graph_line (reason.BrokenRule line broken) = codes "graph: line " ++ decimal line ++ codes ": " ++ rule_text broken ++ codes "\n"
+graph_line (reason.BrokenRule line broken) = codes "graph: line " ++ decimal line ++ codes ": " ++ text_of broken ++ codes "\n"
+
+-- a loop at a node, on a byte
+abbrev pub loop_line : List ℕ → ℕ → List ℕ
+loop_line node byte = codes "check: loop at " ++ node ++ codes " on byte " ++ encode_lower (byte ∷ []) ++ codes "\n"
+
+-- what is wrong with a span at a node
+abbrev pub span_line : List ℕ → List ℕ → List ℕ → List ℕ
+span_line span what node = codes "check: span " ++ span ++ what ++ node ++ codes "\n"
 
 -- the line of failed checks
 abbrev pub check_line : CheckReason → List ℕ
 check_line check.NotYet = codes "check: not yet\n"
-check_line check.Loops = codes "check: loop\n"
+check_line (check.Loop node byte) = loop_line node byte
+check_line (check.Reopened span node) = span_line span (codes " reopened at ") node
+check_line (check.NotOpen span node) = span_line span (codes " not open at ") node
+check_line (check.Mixed span node) = span_line span (codes " mixed at ") node
 
 -- the status of a refusal
 abbrev pub status_of : Refusal → Status

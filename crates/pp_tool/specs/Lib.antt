@@ -4,6 +4,8 @@ pub mod Verdict
 pub mod GraphText
 pub mod Capture
 pub mod Report
+pub mod Checks
+pub mod Check
 pub mod Print
 pub mod Trace
 pub mod Commands
@@ -21,10 +23,15 @@ pub use Rattle.pp_text.specs.Outcome
 pub use Rattle.pp_text.specs.Printed
 pub use Rattle.pp_event.specs.Chain
 pub use Rattle.pp_event.specs.Run
+pub use Rattle.pp_event.specs.Loops as RunLoops
 pub use Rattle.pp_event.specs.Answers as RunAnswers
 pub use Rattle.pp_mean.specs.Nodes
 pub use Rattle.pp_mean.specs.Mean
+pub use Rattle.pp_mean.specs.Loops as GraphLoops
 pub use Rattle.pp_mean.specs.Plain
-pub use Rattle.pp_mean.specs.Whole
+pub use Rattle.pp_check.specs.Edges
+pub use Rattle.pp_check.specs.Loops as CheckLoops
+pub use Rattle.pp_check.specs.Spans
+pub use Rattle.pp_check.specs.Checked
 pub use Rattle.pp_outside.specs.Faults
 pub use Rattle.pp_capture.specs.Spelling

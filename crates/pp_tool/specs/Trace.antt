@@ -1,16 +1,16 @@
--- `trace`: the text of a plain graph, then a capture within its limit, and the report of the graph's run on the joined
--- parts, each answer being 0.
-use Rattle.std.specs.Prelude.{◌≡◌, ℕ, ◌≤◌, List, [], Option, length}
+-- `trace`: the text of a plain graph that is accepted, then a capture within its limit, and the report of the graph's run
+-- on the joined parts, each answer being 0.
+use Rattle.std.specs.Prelude.{◌≡◌, ℕ, ◌≤◌, List, [], length}
 use Rattle.pp_graph.specs.Plan.{Plan}
 use Rattle.pp_event.specs.Run.{RunResult}
 use Rattle.pp_event.specs.Answers.{by_script}
 use Rattle.pp_mean.specs.Mean.{Means, values_by}
 use Rattle.pp_mean.specs.Plain.{IsPlain}
-use Rattle.pp_mean.specs.Whole.{Given, by_sets, ComesBack}
 use Rattle.pp_tool.specs.declared.refusal.CheckReason.TheVariants as check
 use Rattle.pp_tool.specs.declared.refusal.Refusal.TheVariants as refusal
 use Rattle.pp_tool.specs.Verdict.{Outcome, Gives, Refuses, Verdict, Then, Test}
 use Rattle.pp_tool.specs.GraphText.{Begun, BeginsWithGraph, ReadsText}
+use Rattle.pp_tool.specs.Checks.{IsAccepted, Checks}
 use Rattle.pp_tool.specs.Capture.{IsCapture, joined}
 use Rattle.pp_tool.specs.Report.{report_of}
 
@@ -21,14 +21,6 @@ capture_limit = 262144
 -- the run of the graph on the whole string has this result, with no sets, no answers and no resumes
 abbrev pub RunsTo : Plan → List ℕ → RunResult → Type 0
 RunsTo g string r = Means g (values_by g []) string (by_script []) 0 r
-
--- what this run is given
-abbrev pub run_of : Plan → List ℕ → Given
-run_of g string = by_sets g [] [] 0 string
-
--- it comes to a node twice at one place
-abbrev pub RunsInLoop : Plan → List ℕ → Type 0
-RunsInLoop g string = (node : ℕ) × (byte : Option ℕ) × ComesBack (run_of g string) node byte
 
 -- the graph is plain
 abbrev pub HasPlain : Begun → Type 0
@@ -43,10 +35,10 @@ abbrev pub ReadsCapture : Begun → Outcome Begun → Type 0
 ReadsCapture begun (Gives out) = (parts : List (List ℕ)) × IsCapture begun.1 parts × (out ≡ (begun.0, joined parts))
 ReadsCapture begun (Refuses why before) = ((parts : List (List ℕ)) → ¬ (IsCapture begun.1 parts)) × (why ≡ refusal.Capture) × (before ≡ [])
 
--- the last stage: it writes the report of the run, or the run comes to a node twice at one place
+-- the last stage: it writes the report of the run
 abbrev pub Reports : Begun → Verdict → Type 0
-Reports begun (Gives lines) = (r : RunResult) × RunsTo begun.0 begun.1 r × ¬ (RunsInLoop begun.0 begun.1) × (lines ≡ report_of begun.0 r)
-Reports begun (Refuses why before) = RunsInLoop begun.0 begun.1 × (why ≡ refusal.Check check.Loops) × (before ≡ [])
+Reports begun (Gives lines) = (r : RunResult) × RunsTo begun.0 begun.1 r × (lines ≡ report_of begun.0 r)
+Reports begun (Refuses why before) = ⊥
 
 -- the stages that are left, behind a rest within its limit
 abbrev pub OnShort : Begun → Verdict → Type 0
@@ -56,21 +48,26 @@ OnShort = Then ReadsCapture Reports
 abbrev pub OnPlain : Begun → Verdict → Type 0
 OnPlain = Then (Test HasShortRest refusal.TooLong) OnShort
 
+-- behind an accepted graph
+abbrev pub OnAccepted : Begun → Verdict → Type 0
+OnAccepted = Then (Test HasPlain (refusal.Check check.NotYet)) OnPlain
+
 -- behind the text of a graph
 abbrev pub OnGraph : Begun → Verdict → Type 0
-OnGraph = Then (Test HasPlain (refusal.Check check.NotYet)) OnPlain
+OnGraph = Then (Checks (λ begun. begun.0)) OnAccepted
 
 -- what `trace` makes of an input
 abbrev pub Traces : List ℕ → Verdict → Type 0
 Traces = Then ReadsText OnGraph
 
--- the bytes begin with the text of a plain graph
+-- the bytes begin with the text of an accepted plain graph
 pub record BeginsWithPlain (bytes : List ℕ) (g : Plan) (rest : List ℕ) : Type 0 where
   pub last : ℕ
   pub graph : BeginsWithGraph bytes g last rest
+  pub accepted : IsAccepted g
   pub plain : IsPlain g
 
--- a plain graph and a capture, whose run has a result, and the report of it
+-- an accepted plain graph and a capture, the result of its run, and the report of that
 pub record HasReport (bytes report : List ℕ) : Type 0 where
   pub g : Plan
   pub rest : List ℕ
@@ -81,7 +78,7 @@ pub record HasReport (bytes report : List ℕ) : Type 0 where
   pub run : RunsTo g (joined parts) result
   pub lines : report ≡ report_of g result
 
--- an input of `trace` in order: a plain graph and a capture within its limit, whose run comes to no node twice at one place
+-- an input of `trace` in order: an accepted plain graph, and a capture within its limit
 pub record IsTraced (bytes : List ℕ) : Type 0 where
   pub g : Plan
   pub rest : List ℕ
@@ -89,4 +86,3 @@ pub record IsTraced (bytes : List ℕ) : Type 0 where
   pub graph : BeginsWithPlain bytes g rest
   pub short : length rest ≤ capture_limit
   pub capture : IsCapture rest parts
-  pub no_loop : ¬ (RunsInLoop g (joined parts))

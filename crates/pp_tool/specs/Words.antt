@@ -10,6 +10,7 @@ trace_words = codes "trace" ∷ []
 -- the words of each command
 abbrev pub words_of : Command → List (List ℕ)
 words_of command.Trace = trace_words
+words_of command.Check = codes "check" ∷ []
 words_of command.Print = codes "print" ∷ []
 
 -- the words are a command

@@ -13,6 +13,7 @@ ghost use Rattle.pp_tool.specs.Trace.{HasReport, IsTraced};
 ghost use Rattle.pp_tool.specs.Commands.{Decides, CanRefuse, IsAnswerOf};
 ghost use Rattle.pp_tool.specs.steps.Stops.{StopsReading, IsNoRefusal, status_after, line_after};
 
+use crate::check::check;
 use crate::print::print;
 use crate::status::Status;
 use crate::stop::Stop;
@@ -25,12 +26,14 @@ use std::sync::ledger::Ledger;
 /// Runs the command that the words name, from the input to the output, and tells a refusal on the errors sink.
 ///
 /// `trace` reads a graph text, then a capture of connection 0, and writes the report of the graph's run on the joined
-/// parts; `print` reads a graph text and writes its printed form. The words are judged first, and nothing is read where
-/// they are no command. Then the front of the input is taken, 4,194,305 bytes or up to its end, and the graph text in it
-/// is judged. In `trace` the graph is checked next, then at most 262,144 bytes behind the text are taken, then the
-/// capture and the run are judged. In `print` nothing may stand behind the text, and nothing is checked. Nothing is
-/// written to the output before all this. An error line that can't be written changes no status. `steps` counts the
-/// states of a program that are read: none, since a graph is run whole.
+/// parts; `check` reads a graph text and tells how many nodes it has, the most moves in a row that take no byte, and the
+/// most spans that may be open at one node; `print` reads a graph text and writes its printed form. The words are judged
+/// first, and nothing is read where they are no command. Then the front of the input is taken, 4,194,305 bytes or up to
+/// its end, and the graph text in it is judged. In `trace` the graph is checked next, then at most 262,144 bytes behind
+/// the text are taken, then the capture is judged. In `check` and `print` nothing may stand behind the text; `check` then
+/// checks the graph, and `print` checks nothing. Nothing is written to the output before all this. An error line that
+/// can't be written changes no status. `steps` counts the states of a program that are read: none, since a graph is run
+/// whole.
 pub fn tool<S: Source, K: Sink, E: Sink, L: Ledger>(
     alloc: Global,
     words: &WordList,
@@ -115,6 +118,7 @@ fn lines_of<S: Source>(alloc: Global, command: Command, input: &mut S) -> Result
 {
     match command {
         Command::Trace => trace(alloc, input),
+        Command::Check => check(alloc, input),
         Command::Print => print(alloc, input),
     }
 }

@@ -7,14 +7,15 @@ ghost use Rattle.pp_tool.specs.declared.refusal.Refusal.TheVariants as refusal;
 ghost use Rattle.pp_tool.specs.declared.status.Status.{Status};
 ghost use Rattle.pp_tool.specs.declared.status.Status.TheVariants as status;
 ghost use Rattle.pp_tool.specs.declared.words.Command.{Command};
-ghost use Rattle.pp_tool.specs.declared.words.Command.TheVariants.{Print};
+ghost use Rattle.pp_tool.specs.declared.words.Command.TheVariants.{Check, Print};
 ghost use Rattle.pp_tool.specs.Answers.{ComesWhere};
 ghost use Rattle.pp_tool.specs.Verdict.{Gives, Refuses, Concludes, AtMostOne, AtLeastOne};
 ghost use Rattle.pp_tool.specs.GraphText.{HasNoGraph, IsNoGraph, ReadsText, ReadsTextAlone};
 ghost use Rattle.pp_tool.specs.Trace.{Traces, HasReport};
+ghost use Rattle.pp_tool.specs.Check.{IsCheckedAs};
 ghost use Rattle.pp_tool.specs.Print.{Prints};
 ghost use Rattle.pp_tool.specs.Commands.{IsAnswerOf};
-ghost use Rattle.pp_tool.specs.Facts.{FailsCheck, HasLongRest, HasNoCapture, HasPrint};
+ghost use Rattle.pp_tool.specs.Facts.{FailsCheck, FailsAlone, HasLongRest, HasNoCapture, HasPrint, HasShape};
 
 /// `trace` refuses an input for each reason exactly where the input gives that reason, and writes nothing before; what it
 /// writes of any other is the report of the run.
@@ -24,6 +25,14 @@ pub fn trace_decides()
     ensures too_long { (bytes before : List ℕ) → Traces bytes (Refuses refusal.TooLong before) ↔ (HasLongRest bytes × (before ≡ [])) }
     ensures capture { (bytes before : List ℕ) → Traces bytes (Refuses refusal.Capture before) ↔ (HasNoCapture bytes × (before ≡ [])) }
     ensures lines { (bytes lines : List ℕ) → Traces bytes (Gives lines) → HasReport bytes lines }
+{}
+
+/// `check` refuses an input exactly where it is not the text of a graph alone, or is that of a graph which has a loop or
+/// whose spans do not fit, and else writes the line of its shape.
+pub fn check_decides()
+    ensures graph { (bytes before : List ℕ) (reason : GraphReason) → IsCheckedAs bytes (Refuses (refusal.Graph reason) before) ↔ (IsNoGraph bytes reason × (before ≡ [])) }
+    ensures check { (bytes before : List ℕ) (reason : CheckReason) → IsCheckedAs bytes (Refuses (refusal.Check reason) before) ↔ (FailsAlone bytes reason × (before ≡ [])) }
+    ensures lines { (bytes lines : List ℕ) → IsCheckedAs bytes (Gives lines) ↔ HasShape bytes lines }
 {}
 
 /// `print` refuses an input exactly where it is not the text of a graph alone, and else writes its printed text.
@@ -46,6 +55,15 @@ pub fn trace_answers()
         ComesWhere answer status.Capture (HasNoCapture bytes) }
 {}
 
+/// And of `check`, over any input without TooLong and Capture.
+pub fn check_answers()
+    ensures graph { (bytes : List ℕ) (answer : Status) (before after : Option (List ℕ)) → Concludes (IsCheckedAs bytes) answer before after →
+        ComesWhere answer status.Graph ((reason : GraphReason) × IsNoGraph bytes reason) }
+    ensures check { (bytes : List ℕ) (answer : Status) (before after : Option (List ℕ)) → Concludes (IsCheckedAs bytes) answer before after →
+        ComesWhere answer status.Check ((reason : CheckReason) × FailsAlone bytes reason) }
+    ensures no_capture { (answer : Status) → IsAnswerOf Check answer → (answer ≢ status.TooLong) × (answer ≢ status.Capture) }
+{}
+
 /// And of `print`, whose other refusals never come, over any input; and no command answers Program.
 pub fn print_answers()
     ensures graph { (bytes : List ℕ) (answer : Status) (before after : Option (List ℕ)) → Concludes (Prints bytes) answer before after →
@@ -59,6 +77,7 @@ pub fn one_verdict()
     ensures text { (bytes : List ℕ) → AtMostOne (ReadsText bytes) }
     ensures text_alone { (bytes : List ℕ) → AtMostOne (ReadsTextAlone bytes) }
     ensures trace { (bytes : List ℕ) → AtMostOne (Traces bytes) }
+    ensures check { (bytes : List ℕ) → AtMostOne (IsCheckedAs bytes) }
     ensures print { (bytes : List ℕ) → AtMostOne (Prints bytes) }
 {}
 
@@ -67,5 +86,6 @@ pub fn some_verdict()
     ensures text { (bytes : List ℕ) → AtLeastOne (ReadsText bytes) }
     ensures text_alone { (bytes : List ℕ) → AtLeastOne (ReadsTextAlone bytes) }
     ensures trace { (bytes : List ℕ) → AtLeastOne (Traces bytes) }
+    ensures check { (bytes : List ℕ) → AtLeastOne (IsCheckedAs bytes) }
     ensures print { (bytes : List ℕ) → AtLeastOne (Prints bytes) }
 {}

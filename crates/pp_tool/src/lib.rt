@@ -2,6 +2,8 @@
 #![tactic(auto)]
 
 mod capture;
+mod check;
+mod checks;
 mod command;
 mod input;
 mod laws;
@@ -17,7 +19,8 @@ mod words;
 
 pub use command::tool;
 pub use laws::{
-    one_verdict, print_answers, print_decides, some_verdict, trace_answers, trace_decides,
+    check_answers, check_decides, one_verdict, print_answers, print_decides, some_verdict,
+    trace_answers, trace_decides,
 };
 pub use program::run_program;
 pub use status::Status;

@@ -14,7 +14,7 @@ use pp_text::TextFault;
 use std::alloc::AllocError;
 
 /// Why a command ends early: the input is refused, or the outside or memory fails.
-#[derive(Clone, Copy, Debug)]
+#[derive(Debug, Drop)]
 pub(crate) enum Stop {
     /// The input is refused.
     Refused(Refusal),
@@ -56,8 +56,8 @@ impl From<TextFault> for Stop {
 
 impl Stop {
     /// The status that it ends with.
-    pub(crate) fn status(self) -> Status
-        ensures { result ≡ stop_status self }
+    pub(crate) fn status(&self) -> Status
+        ensures { result ≡ stop_status self.now }
     {
         match self {
             Stop::Refused(refusal) => refusal.status(),
@@ -68,17 +68,17 @@ impl Stop {
     }
 
     /// Tells its line on the errors sink, or the front of it where the sink fails.
-    pub(crate) fn tell<E: Sink>(self, errors: &mut E)
-        ensures { Tells (E.written errors.old) (E.written errors.new) (E.faults errors.old) (E.faults errors.new) (stop_line self) }
+    pub(crate) fn tell<E: Sink>(&self, errors: &mut E)
+        ensures { Tells (E.written errors.old) (E.written errors.new) (E.faults errors.old) (E.faults errors.new) (stop_line self.now) }
     {
         let _ = self.write_line(errors);
     }
 
     // Writes its line.
-    fn write_line<E: Sink>(self, errors: &mut E) -> Result<(), Failed>
-        ensures whole { OnOk result (Adds (E.written errors.old) (E.written errors.new) (stop_line self)) }
+    fn write_line<E: Sink>(&self, errors: &mut E) -> Result<(), Failed>
+        ensures whole { OnOk result (Adds (E.written errors.old) (E.written errors.new) (stop_line self.now)) }
         ensures failed { OnErr result (Rose (E.faults errors.old) (E.faults errors.new)) }
-        ensures front { OnErr result (AddsSome (E.written errors.old) (E.written errors.new) (stop_line self)) }
+        ensures front { OnErr result (AddsSome (E.written errors.old) (E.written errors.new) (stop_line self.now)) }
     {
         match self {
             Stop::Refused(refusal) => refusal.write_line(errors),

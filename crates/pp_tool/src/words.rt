@@ -10,6 +10,8 @@ use std::marker::Model;
 pub(crate) enum Command {
     /// The report of a graph's run on a capture.
     Trace,
+    /// Whether a graph has loops, and whether its spans fit.
+    Check,
     /// The printed form of a graph text.
     Print,
 }
@@ -65,6 +67,8 @@ impl WordList {
     {
         if self.are("trace") {
             Some(Command::Trace)
+        } else if self.are("check") {
+            Some(Command::Check)
         } else if self.are("print") {
             Some(Command::Print)
         } else {

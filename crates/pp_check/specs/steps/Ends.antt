@@ -1,10 +1,11 @@
 -- Where the moves of a node lead, as its edges tell it.
-use Rattle.std.specs.Prelude.{◌≡◌, ℕ, ◌<◌, List, Bool, true, false, Option, Some, None, ◌⊎◌, length, take, slice_index, IsTrue}
+use Rattle.std.specs.Prelude.{◌≡◌, ℕ, ◌<◌, List, Bool, true, false, Option, Some, None, ◌⊎◌, length, take, slice_get, slice_index, IsTrue}
 use Rattle.std.specs.List.{Any}
 use Rattle.std.specs.FinSet.{FinSet, contains}
 use Rattle.std.specs.Ordering.{nat_cmp}
 use Rattle.pp_bytes.specs.declared.fold.Fold.{Fold}
 use Rattle.pp_bytes.specs.Fold.{folded}
+use Rattle.pp_flow.specs.Rows.{free, onward, edge, Ends, NoEnds, OrEnds, FreeEnds, BothEnds}
 use Rattle.pp_graph.specs.declared.node.Answer.{Answer}
 use Rattle.pp_graph.specs.declared.node.Key.{Key}
 use Rattle.pp_graph.specs.declared.node.Peek.{Peek}
@@ -12,17 +13,6 @@ use Rattle.pp_graph.specs.declared.node.Other.{Other}
 use Rattle.pp_graph.specs.declared.node.Kind.{Kind}
 use Rattle.pp_graph.specs.declared.node.Kind.TheVariants.{Match, Invoke, Consume, SpanOpen, SpanClose, Pause, Fail}
 use Rattle.pp_graph.specs.declared.node.Node.{Node}
-
--- how a node leads to another: by a move that keeps the place, by one behind which any byte may come, or by an edge
--- that perhaps no string takes
-pub data Way : Type 0 where
-  free : Way
-  onward : Way
-  edge : Way
-
--- a relation between bytes and nodes for each way
-abbrev pub Ends : Type 1
-Ends = Way → ℕ → ℕ → Type 0
 
 -- bytes begin with these and go on with c
 abbrev pub GoesOnBy : List ℕ → List ℕ → ℕ → Type 0
@@ -82,26 +72,6 @@ AnswerEnds answers other free b next = (other ≡ next) ⊎ Any (λ (a : Answer)
 AnswerEnds answers other onward b next = ⊥
 AnswerEnds answers other edge b next = (other ≡ next) ⊎ Any (λ (a : Answer). a.target ≡ next) answers
 
--- on every byte to one node, without taking a byte
-abbrev pub FreeEnds : ℕ → Ends
-FreeEnds n free b next = n ≡ next
-FreeEnds n onward b next = ⊥
-FreeEnds n edge b next = n ≡ next
-
--- on every byte to one node, whether a byte is taken or not
-abbrev pub BothEnds : ℕ → Ends
-BothEnds n free b next = n ≡ next
-BothEnds n onward b next = n ≡ next
-BothEnds n edge b next = n ≡ next
-
--- nowhere
-abbrev pub NoEnds : Ends
-NoEnds way b next = ⊥
-
--- one of two
-abbrev pub OrEnds : Ends → Ends → Ends
-OrEnds P Q way b next = P way b next ⊎ Q way b next
-
 -- of a node of a kind
 abbrev pub EndsOf : Kind → Ends
 EndsOf (Match fold keys peeks other) = OrEnds (KeyEnds fold keys keys) (OrEnds (PeekEnds fold peeks) (OtherEnds fold keys peeks other))
@@ -116,6 +86,10 @@ EndsOf (Fail code reason) = NoEnds
 abbrev pub EndsAt : Option Node → Ends
 EndsAt None = NoEnds
 EndsAt (Some n) = EndsOf n.kind
+
+-- where the nodes lead
+abbrev pub ends_of : List Node → ℕ → Ends
+ends_of nodes node = EndsAt (slice_get nodes node)
 
 -- on the bytes of a set, to one node, free or onward or neither
 abbrev pub SetEnds : FinSet nat_cmp → ℕ → Bool → Bool → Ends

@@ -1,9 +1,10 @@
 -- Where the moves of a state lead, as its edges tell it.
-use Rattle.std.specs.Prelude.{◌≡◌, ℕ, ◌<◌, List, true, false, Option, Some, None, ◌⊎◌, if◌then◌else◌}
+use Rattle.std.specs.Prelude.{◌≡◌, ℕ, ◌<◌, List, true, false, Option, Some, None, if◌then◌else◌, slice_get}
 use Rattle.std.specs.List.{Any}
 use Rattle.pp_bytes.specs.declared.fold.Fold.{Fold}
 use Rattle.pp_bytes.specs.Fold.{folded}
 use Rattle.pp_bytes.specs.Ranges.{in_ranges}
+use Rattle.pp_flow.specs.Rows.{Way, free, onward, edge, Ends, NoEnds, OrEnds, FreeEnds, BothEnds, DeadEnds}
 use Rattle.pp_graph.specs.declared.node.Answer.{Answer}
 use Rattle.pp_program.specs.declared.program.Edge.{Edge}
 use Rattle.pp_program.specs.declared.program.Rest.{Rest}
@@ -12,17 +13,6 @@ use Rattle.pp_program.specs.declared.program.Instr.TheVariants.{Branch, Invoke, 
 use Rattle.pp_program.specs.declared.program.State.{State}
 use Rattle.pp_program.specs.declared.branch.Step.{Step}
 use Rattle.pp_program.specs.States.{edge_on}
-
--- how a state leads to another: by a move that keeps the place, by one behind which any byte may come, or by an edge
--- that perhaps no string takes
-pub data Way : Type 0 where
-  free : Way
-  onward : Way
-  edge : Way
-
--- a relation between bytes and states for each way
-abbrev pub Ends : Type 1
-Ends = Way → ℕ → ℕ → Type 0
 
 -- the step of an edge, or of the rest
 abbrev pub edge_step : Rest → Option Edge → Step
@@ -46,42 +36,17 @@ StepsBelow step count free b next = (b < count) × StepEnds (step b) free next
 StepsBelow step count onward b next = (b < count) × StepEnds (step b) onward next
 StepsBelow step count edge b next = (a : ℕ) × (a < count) × ((step a).target ≡ next)
 
--- by one of some edges, or to a state, whatever the byte
+-- by one of some edges, whatever the byte
 abbrev pub EdgeEnds : List Edge → Ends
 EdgeEnds edges free b next = ⊥
 EdgeEnds edges onward b next = ⊥
 EdgeEnds edges edge b next = Any (λ (e : Edge). e.target ≡ next) edges
-
-abbrev pub DeadEnds : ℕ → Ends
-DeadEnds n free b next = ⊥
-DeadEnds n onward b next = ⊥
-DeadEnds n edge b next = n ≡ next
 
 -- by some answers
 abbrev pub AnswerEnds : List Answer → Ends
 AnswerEnds answers free b next = Any (λ (a : Answer). a.target ≡ next) answers
 AnswerEnds answers onward b next = ⊥
 AnswerEnds answers edge b next = Any (λ (a : Answer). a.target ≡ next) answers
-
--- on every byte to one state, without taking a byte
-abbrev pub FreeEnds : ℕ → Ends
-FreeEnds n free b next = n ≡ next
-FreeEnds n onward b next = ⊥
-FreeEnds n edge b next = n ≡ next
-
--- on every byte to one state, whether a byte is taken or not
-abbrev pub BothEnds : ℕ → Ends
-BothEnds n free b next = n ≡ next
-BothEnds n onward b next = n ≡ next
-BothEnds n edge b next = n ≡ next
-
--- nowhere
-abbrev pub NoEnds : Ends
-NoEnds way b next = ⊥
-
--- one of two
-abbrev pub OrEnds : Ends → Ends → Ends
-OrEnds P Q way b next = P way b next ⊎ Q way b next
 
 -- of a state at a place with this instruction
 abbrev pub EndsOf : ℕ → Instr → Ends
@@ -98,3 +63,7 @@ EndsOf state (Fail code reason) = NoEnds
 abbrev pub EndsAt : ℕ → Option State → Ends
 EndsAt state None = NoEnds
 EndsAt state (Some s) = EndsOf state s.instr
+
+-- where the states lead
+abbrev pub ends_of : List State → ℕ → Ends
+ends_of states state = EndsAt state (slice_get states state)

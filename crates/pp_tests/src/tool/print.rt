@@ -4,7 +4,7 @@ use pp_tool::Status;
 use std::test::Fail;
 
 // The text of examples/netstrings/graph.txt.
-const NETSTRINGS: &str =
+pub(super) const NETSTRINGS: &str =
     r#"graph 1  # a row of netstrings: a length in digits, a colon, so many bytes, a comma
 
 prop left u32; host done match; span body

@@ -155,9 +155,9 @@ const REFUSED_TEXTS: [(&str, &str); 21] = [
     ),
 ];
 
-// Texts of graphs that `trace` does not run: a span, a key of two bytes, a fold, a peek, an answer, a number, a finish rule,
-// a property, a pause; and the line that tells it. The run of the last one comes to a node twice at one place.
-const REFUSED_GRAPHS: [(&str, &str); 10] = [
+// Texts of graphs that `trace` does not run, and the line that tells why. Accepted ones: a span, a key of two bytes, a fold,
+// a peek, an answer, a number, a finish rule, a property, a pause. Then those that have a loop, or a fault of spans.
+const REFUSED_GRAPHS: [(&str, &str); 12] = [
     ("span s;entry a;node a match;skip -> a", "check: not yet\n"),
     (
         "entry s;node s match;on \"ab\" -> s;skip -> s",
@@ -165,11 +165,11 @@ const REFUSED_GRAPHS: [(&str, &str); 10] = [
     ),
     ("entry s;node s match lower;skip -> s", "check: not yet\n"),
     (
-        "entry s;node s match;peek \"a\" -> s;skip -> s",
+        "entry s;node s match;peek \"a\" -> t;skip -> s;node t match;skip -> s",
         "check: not yet\n",
     ),
     (
-        "host h match;entry s;node s call h;is 1 -> s;else -> s",
+        "host h match;entry s;node s match;skip -> c;node c call h;is 1 -> s;else -> s",
         "check: not yet\n",
     ),
     (
@@ -185,12 +185,20 @@ const REFUSED_GRAPHS: [(&str, &str); 10] = [
         "check: not yet\n",
     ),
     (
-        "entry s;node s match;else -> p;node p pause 1 \"x\";else -> s",
+        "entry s;node s match;skip -> p;node p pause 1 \"x\";else -> s",
         "check: not yet\n",
     ),
     (
         "entry x;node x match;else -> y;node y match;else -> x",
-        "check: loop\n",
+        "check: loop at x on byte 00\n",
+    ),
+    (
+        "entry s;node s match;peek \"a\" -> s;skip -> s",
+        "check: loop at s on byte 61\n",
+    ),
+    (
+        "span w;entry k;node k close w;else -> z;node z match;skip -> z",
+        "check: span w not open at k\n",
     ),
 ];
 
@@ -238,15 +246,18 @@ fn a_graph_that_is_not_run_is_refused(rt: HostRuntime) -> Result<(), Fail> {
 #[test]
 fn what_is_no_capture_is_refused(rt: HostRuntime) -> Result<(), Fail> {
     let alloc = rt.alloc();
-    // The capture is judged before the run, which would come to a node twice at one place.
+    // The graph is checked before the capture is judged.
     let looping = "graph 1\nentry x\nnode x match\nelse -> y\nnode y match\nelse -> x\nend\n";
-    for text in [GRAPH, looping] {
+    for (text, status, line) in [
+        (GRAPH, Status::Capture, "capture: refused\n"),
+        (looping, Status::Check, "check: loop at x on byte 00\n"),
+    ] {
         for capture in REFUSED_CAPTURES {
             let bytes = joined(alloc, text, capture)?;
             let got = outcome_of(alloc, &["trace"], bytes.as_slice(), SOUND)?;
-            assert_eq!(rt; got.status, Status::Capture);
+            assert_eq!(rt; got.status, status);
             assert_eq!(rt; got.output.written(), b"".as_slice());
-            assert_eq!(rt; got.errors.written(), b"capture: refused\n".as_slice());
+            assert_eq!(rt; got.errors.written(), line.as_bytes());
         }
     }
     Ok(())

@@ -1,6 +1,6 @@
 use Rattle.std.proofs.Common.{◌∙◌, ap, map}
 use Rattle.pp_program.specs.declared.program.State.{State}
-use Rattle.pp_program.specs.steps.Rows.{act_of}
+use Rattle.pp_program.specs.Spans.{act_of}
 use Rattle.pp_program.proofs.FlowLemmas.{have-spans, lead-at, flow-more}
 use Rattle.pp_program.proofs.moves.flow_of.Goals as goal
 

@@ -1,7 +1,7 @@
 use Rattle.std.proofs.Common.{subst, ◌<◌, ℕ, sym, length}
 use Rattle.std.proofs.lemmas.Result.{on_ok_weaker}
 use Rattle.pp_program.proofs.FlowLemmas.{step-within}
-use Rattle.pp_program.proofs.RowLemmas.{rowed-then}
+use Rattle.pp_flow.proofs.RowLemmas.{rowed-then}
 use Rattle.pp_program.proofs.moves.push_branch.Goals as goal
 
 pub push_steps-requires-clause-to : goal.push_steps-requires-clause-to

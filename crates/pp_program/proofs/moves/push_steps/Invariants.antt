@@ -1,6 +1,6 @@
 use Rattle.std.proofs.Common.{◌≡◌, ℕ, ◌<◌, ◌≤◌}
 use Rattle.pp_program.specs.steps.Ends.{step_on, StepsBelow}
-use Rattle.pp_program.specs.steps.Rows.{Rowed}
+use Rattle.pp_flow.specs.Rows.{Rowed}
 use Rattle.pp_program.proofs.moves.push_steps.Given as goal
 
 abbrev pub invariant-loop-b : goal.invariant-loop-b

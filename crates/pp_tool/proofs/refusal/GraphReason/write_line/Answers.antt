@@ -13,7 +13,7 @@ returns-in-WrongLine-clause-whole g c =
 
 pub returns-in-BrokenRule-clause-whole : goal.returns-in-BrokenRule-clause-whole
 returns-in-BrokenRule-clause-whole g c =
-    subst (λ l. OnOk c.write_graph_line-in-BrokenRule.result (Adds (g.E.Sink.written c.args.errors.now) (g.E.Sink.written c.write_graph_line-in-BrokenRule.new.errors) l)) (ap (line_with c.in-BrokenRule.line) c.rule_text.ensures ∙ sym (ap graph_line c.in-BrokenRule.is)) c.write_graph_line-in-BrokenRule.ensures.whole
+    subst (λ l. OnOk c.write_graph_line-in-BrokenRule.result (Adds (g.E.Sink.written c.args.errors.now) (g.E.Sink.written c.write_graph_line-in-BrokenRule.new.errors) l)) (ap (line_with c.in-BrokenRule.line) (c.as_bytes.ensures.value ∙ c.text.ensures) ∙ sym (ap graph_line c.in-BrokenRule.is)) c.write_graph_line-in-BrokenRule.ensures.whole
 
 pub returns-in-WrongLine-clause-front : goal.returns-in-WrongLine-clause-front
 returns-in-WrongLine-clause-front g c =
@@ -21,4 +21,4 @@ returns-in-WrongLine-clause-front g c =
 
 pub returns-in-BrokenRule-clause-front : goal.returns-in-BrokenRule-clause-front
 returns-in-BrokenRule-clause-front g c =
-    subst (λ l. OnErr c.write_graph_line-in-BrokenRule.result (AddsSome (g.E.Sink.written c.args.errors.now) (g.E.Sink.written c.write_graph_line-in-BrokenRule.new.errors) l)) (ap (line_with c.in-BrokenRule.line) c.rule_text.ensures ∙ sym (ap graph_line c.in-BrokenRule.is)) c.write_graph_line-in-BrokenRule.ensures.front
+    subst (λ l. OnErr c.write_graph_line-in-BrokenRule.result (AddsSome (g.E.Sink.written c.args.errors.now) (g.E.Sink.written c.write_graph_line-in-BrokenRule.new.errors) l)) (ap (line_with c.in-BrokenRule.line) (c.as_bytes.ensures.value ∙ c.text.ensures) ∙ sym (ap graph_line c.in-BrokenRule.is)) c.write_graph_line-in-BrokenRule.ensures.front

@@ -1,5 +1,5 @@
--- Some element of a list, and the fronts of lists.
-use Rattle.std.proofs.Common.{subst, ◌≡◌, ◌↔◌, ℕ, zero, suc, ◌+◌, ◌<◌, ◌⊎◌, List, [], ◌∷◌, Some, refl, sym, ◌∙◌, ap, arith, length, take, get_or, inl, inr}
+-- Some element of a list, the fronts of lists, and elements behind others.
+use Rattle.std.proofs.Common.{subst, ◌≡◌, ◌↔◌, ℕ, zero, suc, ◌+◌, ◌<◌, ◌⊎◌, List, [], ◌∷◌, ◌++◌, Some, refl, sym, ◌∙◌, ap, arith, length, take, get_or, inl, inr}
 use Rattle.std.specs.Prelude.{slice_get}
 use Rattle.std.specs.List.{Any}
 use Rattle.std.proofs.lemmas.Option.{slice_get_within, slice_get-get_or, get_or_from_slice_get}
@@ -58,3 +58,29 @@ module _ {X : Type 0} where
     where
       before-or-at : (k i : ℕ) → k < i + 1 → (k < i) ⊎ (k ≡ i)
       before-or-at k i h = grind arith
+
+  -- the elements with one more behind them
+  pub get-pushed : (xs : List X) (x y : X) (i : ℕ) → slice_get (xs ++ x ∷ []) i ≡ Some y → (slice_get xs i ≡ Some y) ⊎ (x ≡ y)
+  get-pushed [] x y zero e = inr cc
+  get-pushed [] x y (suc i) e = absurd cc
+  get-pushed (z ∷ xs) x y zero e = inl e
+  get-pushed (z ∷ xs) x y (suc i) e = get-pushed xs x y i e
+
+  pub get-last : (xs : List X) (x : X) → slice_get (xs ++ x ∷ []) (length xs) ≡ Some x
+  get-last [] x = refl
+  get-last (z ∷ xs) x = get-last xs x
+
+  -- an element of two lists is in one of them
+  pub get-either : (xs ys : List X) (k : ℕ) (x : X) → slice_get (xs ++ ys) k ≡ Some x → (slice_get xs k ≡ Some x) ⊎ ((j : ℕ) × (slice_get ys j ≡ Some x))
+  get-either [] ys k x e = inr (k, e)
+  get-either (z ∷ xs) ys zero x e = inl e
+  get-either (z ∷ xs) ys (suc k) x e = get-either xs ys k x e
+
+  pub get-front : (xs ys : List X) (x : X) (k : ℕ) → slice_get xs k ≡ Some x → slice_get (xs ++ ys) k ≡ Some x
+  get-front [] ys x k e = absurd cc
+  get-front (z ∷ xs) ys x zero e = e
+  get-front (z ∷ xs) ys x (suc k) e = get-front xs ys x k e
+
+  pub get-back : (xs ys : List X) (x : X) (j : ℕ) → slice_get ys j ≡ Some x → (k : ℕ) × (slice_get (xs ++ ys) k ≡ Some x)
+  get-back [] ys x j e = (j, e)
+  get-back (z ∷ xs) ys x j e = (let r : (k : ℕ) × (slice_get (xs ++ ys) k ≡ Some x) = get-back xs ys x j e in (suc r.0, r.1))
