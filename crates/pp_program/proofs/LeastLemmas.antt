@@ -25,6 +25,18 @@ least-all P items states i is end before j at =
     let long : length items ≡ length states = ap length is in
     before j (omega (arith, low, long, end)) at
 
+-- what holds of each element before a place, and of the one there, holds of one more
+pub each-more : {X : Type 0} (P : X → Type 0) (xs : List X) (i : ℕ) (d : X) → i < length xs → ((j : ℕ) (x : X) → j < i → slice_get xs j ≡ Some x → P x) → P (get_or xs i d) →
+    (j : ℕ) (x : X) → j < i + 1 → slice_get xs j ≡ Some x → P x
+each-more P xs i d low before here j x small at = elim (cases_lt j i) [
+  | inl less ↦ before j x less at
+  | inr more ↦
+      let e : i ≡ j = omega (arith, small, more) in
+      let both : Some x ≡ Some (get_or xs i d) = sym at ∙ subst (λ n. slice_get xs n ≡ Some (get_or xs i d)) e (slice_get-get_or xs i d low) in
+      let same : get_or xs i d ≡ x = cc in
+      subst P same here
+]
+
 module _ {X : Type 0} (follows : X → X → Bool) where
   row-step : (xs : List X) (k : ℕ) (d e : X) → suc k < length xs → in_row follows (drop k xs) ≡ (follows (get_or xs k d) (get_or xs (suc k) e) && in_row follows (drop (suc k) xs))
   row-step [] k d e h = absurd (omega (arith, h))

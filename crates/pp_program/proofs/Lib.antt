@@ -9,4 +9,8 @@ pub mod SpanLemmas
 pub mod SoundLemmas
 pub mod TextLemmas
 pub mod VerifyLemmas
+pub mod ValidLaws
+pub mod RunnableLemmas
+pub mod StandLemmas
+pub mod TableLemmas
 mod Rows

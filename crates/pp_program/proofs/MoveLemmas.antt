@@ -43,7 +43,7 @@ found-in (x ∷ rest) n a e = by (λ f. found-in rest n a f) (x.number == n) e
     by go true e = any-first (λ (x : Answer). x ≡ a) x rest (let same : x ≡ a = cc in same)
     by go false e = any-later (λ (x : Answer). x ≡ a) x rest (go e)
 
-answer-told : (answers : List Answer) (other v next : ℕ) → answered answers other v ≡ next → (other ≡ next) ⊎ Any (λ (a : Answer). a.target ≡ next) answers
+pub answer-told : (answers : List Answer) (other v next : ℕ) → answered answers other v ≡ next → (other ≡ next) ⊎ Any (λ (a : Answer). a.target ≡ next) answers
 answer-told answers other v next e = by (find (λ (a : Answer). a.number == v) answers) refl e
   where
     by : (o : Option Answer) → find (λ (a : Answer). a.number == v) answers ≡ o → target_or other o ≡ next → (other ≡ next) ⊎ Any (λ (a : Answer). a.target ≡ next) answers

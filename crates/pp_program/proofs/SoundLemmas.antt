@@ -44,7 +44,7 @@ pub width-state : (p : Program) (i : ℕ) → Holds p Target → IsFirstState (�
 width-state p i targets f = record { fails = f.0; least = λ j low fails. f.1 j low fails; first = targets }
 
 -- each passes
-each-passes : {X : Type 0} (test : X → Bool) (xs : List X) → list_all test xs ≡ true → (i : ℕ) (x : X) → slice_get xs i ≡ Some x → test x ≡ true
+pub each-passes : {X : Type 0} (test : X → Bool) (xs : List X) → list_all test xs ≡ true → (i : ℕ) (x : X) → slice_get xs i ≡ Some x → test x ≡ true
 each-passes test [] e i x at = absurd cc
 each-passes test (y ∷ xs) e zero x at = (let same : y ≡ x = cc in subst (λ z. test z ≡ true) same (both-true (test y) (list_all test xs) e).0)
 each-passes test (y ∷ xs) e (suc i) x at = each-passes test xs (both-true (test y) (list_all test xs) e).1 i x at
@@ -101,7 +101,7 @@ state-right p holds i s at = elim (cases_Bool (is_state p s)) [
   | inr wrong ↦ absurd (holds i (inl (s, at, wrong)))
 ]
 
-frame-right : (p : Program) → Holds p Target → is_frame p ≡ true
+pub frame-right : (p : Program) → Holds p Target → is_frame p ≡ true
 frame-right p holds = elim (cases_Bool (is_frame p)) [ inl right ↦ right | inr wrong ↦ absurd (holds (length p.states) (inr (refl, wrong))) ]
 
 pub counts-of : (p : Program) → Holds p Target → Counts p

@@ -1,6 +1,7 @@
 -- The machine of a program is steady, goes on where it waited, and keeps its place and its order.
 use Rattle.std.proofs.Common.{subst, ◌≡◌, ℕ, suc, ◌≤◌, List, [], ◌∷◌, ◌++◌, Option, Some, None, Bool, true, false, cond, refl, sym, ◌∙◌, ap, arith, length, zero, replicate, zero-le, zero-add, add-zero}
 use Rattle.std.specs.Prelude.{slice_get, unwrap_or}
+use Rattle.std.proofs.lemmas.Option.{slice_get_past}
 use Rattle.pp_bytes.specs.declared.fold.Fold.{Fold}
 use Rattle.pp_bytes.specs.Fold.{folded}
 use Rattle.pp_bytes.specs.Ranges.{in_ranges}
@@ -10,7 +11,7 @@ use Rattle.pp_program.specs.declared.program.Instr.{Instr}
 use Rattle.pp_program.specs.declared.program.Instr.TheVariants.{Branch, Invoke, Consume, SpanOpen, SpanClose, Pause, Fail}
 use Rattle.pp_program.specs.declared.program.State.{State}
 use Rattle.pp_program.specs.declared.program.Program.{Program}
-use Rattle.pp_event.specs.Run.{Config, Turn, Rests}
+use Rattle.pp_event.specs.Run.{Config, Turn, Rests, Fails}
 use Rattle.pp_event.specs.Steady.{Keeps, IsSteady, GoesOn, IsResumable, Placed, IsPlaced}
 use Rattle.pp_event.specs.Turns.{to}
 use Rattle.pp_event.specs.Codes.{answered, effect_of}
@@ -191,3 +192,7 @@ none-shut (suc n) (suc span) from shut never h = none-shut n span from shut neve
 -- a run begins with all spans shut
 pub entry-behind : (p : Program) (values : List ℕ) → SpansBehind (program_entry p values)
 entry-behind p values span from h = absurd (none-shut (length p.spans) span from None (λ e. cc) h)
+
+-- a place without a state fails
+pub program-elsewhere : (p : Program) (c : Config) (rest : List ℕ) → length p.states ≤ c.node → (code : ℕ) × (program_turn p c rest ≡ Fails code)
+program-elsewhere p c rest h = (0, ap (λ (o : Option State). state_turn o c rest) (slice_get_past p.states c.node h))

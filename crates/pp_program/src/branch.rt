@@ -1,8 +1,6 @@
 // What a branch does on each byte.
-ghost use Rattle.std.specs.Prelude.{◌≡◌};
-ghost use Rattle.pp_bytes.specs.Ranges.{in_pair};
-ghost use Rattle.pp_program.specs.States.{edge_on as edge_on_of};
-ghost use Rattle.pp_program.specs.steps.Ends.{edge_step as edge_step_of, step_on as step_on_of};
+ghost use Rattle.std.specs.Prelude.{◌≡◌, List, ◌∷◌};
+ghost use Rattle.pp_program.specs.steps.Ends.{IsEdgeTable, edge_step as edge_step_of, step_on as step_on_of};
 
 use crate::program::{Edge, Rest};
 use pp_bytes::{Fold, Ranges};
@@ -14,23 +12,25 @@ pub(crate) struct Step {
     pub takes: bool,
 }
 
-// The first edge that has a byte.
-fn edge_on(b: u8, edges: &[Edge]) -> Option<Edge>
-    ensures { result ≡ edge_on_of b edges.now }
+// Gives the bytes of an edge to it.
+fn give_edge(by_byte: &mut [Option<Edge>; 256], edge: Edge)
+    ensures { (edges : List Edge) → IsEdgeTable edges by_byte.old → IsEdgeTable (edge ∷ edges) by_byte.new }
 {
-    for edge in edges {
-        if has_byte(edge, b) {
-            return Some(*edge);
-        }
+    for b in usize::from(edge.lo)..usize::from(edge.hi) + 1 {
+        by_byte[b] = Some(edge);
     }
-    None
 }
 
-// Whether an edge has a byte.
-fn has_byte(edge: &Edge, b: u8) -> bool
-    ensures { result ≡ in_pair b (edge.now.lo, edge.now.hi) }
+/// The first edge that has a byte, for each byte.
+pub(crate) fn edges_by_byte(edges: &[Edge]) -> [Option<Edge>; 256]
+    ensures { IsEdgeTable edges.now result }
 {
-    edge.lo <= b && b <= edge.hi
+    let mut by_byte = [None; 256];
+    for i in 0..edges.len() {
+        let edge = edges[edges.len() - 1 - i];
+        give_edge(&mut by_byte, edge);
+    }
+    by_byte
 }
 
 // The step of an edge, or of the rest.
@@ -49,16 +49,16 @@ fn edge_step(rest: Rest, edge: Option<Edge>) -> Step
     }
 }
 
-/// The step of a branch on a byte.
+/// The step of a branch on a byte, by the table of its edges.
 pub(crate) fn step_on(
     state: u32,
     fold: Fold,
     stay: &Ranges,
-    edges: &[Edge],
+    by_byte: &[Option<Edge>; 256],
     rest: Rest,
     b: u8,
 ) -> Step
-    ensures { result ≡ step_on_of state fold stay.now edges.now rest b }
+    ensures { (edges : List Edge) → IsEdgeTable edges by_byte.now → result ≡ step_on_of state fold stay.now edges rest b }
 {
     if stay.has(b) {
         return Step {
@@ -66,5 +66,5 @@ pub(crate) fn step_on(
             takes: true,
         };
     }
-    edge_step(rest, edge_on(fold.of(b), edges))
+    edge_step(rest, by_byte[usize::from(fold.of(b))])
 }

@@ -1,9 +1,11 @@
 // Laws over the definitions, each the contract of a function without code.
-ghost use Rattle.std.specs.Prelude.{◌≡◌, ◌↔◌, ◌<◌, ◌^◌, ℕ, List, ◌++◌, length, map};
+ghost use Rattle.std.specs.Prelude.{◌≡◌, ◌↔◌, ◌≤◌, ℕ, List, ◌++◌, length, map};
 ghost use Rattle.pp_event.specs.Chain.{stages};
-ghost use Rattle.pp_event.specs.declared.item.Item.{Item};
-ghost use Rattle.pp_event.specs.Loops.{AreBytes, NoneTwice, stand};
-ghost use Rattle.pp_program.specs.Valid.{Sound, IsVerified};
+ghost use Rattle.pp_event.specs.Loops.{AreBytes, IsGap, IsRankTable, NoneTwice, Reaches, stand};
+ghost use Rattle.pp_event.specs.Runs.{IsBounded};
+ghost use Rattle.pp_program.specs.Moves.{IsLoopFree, program_moves};
+ghost use Rattle.pp_program.specs.Valid.{Holds, IsValid};
+ghost use Rattle.pp_program.specs.declared.fault.VerifyRule.TheVariants as rules;
 ghost use Rattle.pp_program.specs.declared.program.Program.{Program};
 ghost use Rattle.pp_event.specs.Run.{Oracle, RunResult, move, start};
 ghost use Rattle.pp_event.specs.Growth.{Extends, Onward};
@@ -37,16 +39,23 @@ pub fn lies_in_its_string()
         ProgramMeans p values bytes oracle resumes r → LiesIn 0 (length bytes) r.last }
 {}
 
-/// A verified program has a run on each string of bytes, whatever the values, the answers below 2^32 and the resumes.
-pub fn runs_end()
-    ensures { (v : Sound) (values bytes : List ℕ) (oracle : Oracle) (resumes : ℕ) → IsVerified v → AreBytes bytes →
-        ((items : List Item) (code : ℕ) → oracle items code < 2 ^ 32) →
-        (r : RunResult) × ProgramMeans v.program values bytes oracle resumes r }
+/// A valid program has exactly one run on each string of bytes, whatever the values, the answers of 32 bits and the resumes.
+/// That run comes to no state twice at one place.
+pub fn one_run()
+    ensures run { (p : Program) (values bytes : List ℕ) (oracle : Oracle) (resumes : ℕ) → IsValid p → IsBounded oracle → AreBytes bytes →
+        (r : RunResult) × ProgramMeans p values bytes oracle resumes r }
+    ensures only { (p : Program) (values bytes : List ℕ) (oracle : Oracle) (resumes : ℕ) (r q : RunResult) → IsValid p →
+        ProgramMeans p values bytes oracle resumes r → ProgramMeans p values bytes oracle resumes q → r ≡ q }
+    ensures once { (p : Program) (values bytes : List ℕ) (oracle : Oracle) (resumes n : ℕ) → IsValid p → IsBounded oracle → AreBytes bytes →
+        NoneTwice (map stand (stages (move (program_turn p) oracle) n (start (program_entry p values) bytes resumes))) }
 {}
 
-/// Such a run comes to no state twice at one place.
-pub fn none_twice()
-    ensures { (v : Sound) (values bytes : List ℕ) (oracle : Oracle) (resumes n : ℕ) → IsVerified v → AreBytes bytes →
-        ((items : List Item) (code : ℕ) → oracle items code < 2 ^ 32) →
-        NoneTwice (map stand (stages (move (program_turn v.program) oracle) n (start (program_entry v.program values) bytes resumes))) }
+/// A program with a table of ranks has no loop, so the rule on loops holds. Its gap is the greatest rank that a state has
+/// which can be come to.
+pub fn rank_table()
+    ensures loop_free { (p : Program) (rank : ℕ → ℕ → ℕ) → IsRankTable (program_moves p) rank → IsLoopFree p }
+    ensures rule { (p : Program) → IsLoopFree p ↔ Holds p rules.Loop }
+    ensures gap { (p : Program) (rank : ℕ → ℕ → ℕ) → IsRankTable (program_moves p) rank → (gap b state : ℕ) →
+        ((byte other : ℕ) → Reaches (program_moves p) byte other → rank byte other ≤ gap) →
+        Reaches (program_moves p) b state → rank b state ≡ gap → IsGap (program_moves p) gap }
 {}

@@ -2,6 +2,7 @@
 #![tactic(auto)]
 
 mod branch;
+mod countable;
 mod fault;
 mod laws;
 mod length;
@@ -13,10 +14,9 @@ mod verification;
 mod verified;
 mod widths;
 
+pub use countable::is_countable;
 pub use fault::{VerifyFault, VerifyRule};
-pub use laws::{
-    at_most_one_run, goes_on, lies_in_its_string, longer_strings, none_twice, runs_end,
-};
+pub use laws::{at_most_one_run, goes_on, lies_in_its_string, longer_strings, one_run, rank_table};
 pub use program::{Edge, Instr, Program, Rest, State};
 pub use verification::verify;
 pub use verified::Verified;

@@ -8,7 +8,7 @@ ghost use Rattle.pp_program.specs.declared.program.Edge.{Edge};
 ghost use Rattle.pp_program.specs.steps.Ends.{step_on as step_on_of, StepsBelow, EdgeEnds, AnswerEnds, EndsOf};
 ghost use Rattle.pp_program.specs.steps.Rows.{LeadsWithin, IsSound, IsFlowOf};
 
-use crate::branch::{Step, step_on};
+use crate::branch::{Step, edges_by_byte, step_on};
 use crate::program::{Edge, Instr, Program, Rest, State};
 use pp_bytes::{Fold, Ranges};
 use pp_flow::{Act, Flow, Move};
@@ -113,10 +113,11 @@ fn push_steps(
     requires to { (b : ℕ) → (step_on_of state fold stay.now edges.now rest b).target < length flow.old.acts }
     ensures { OnOk result (Rowed flow.old flow.new (StepsBelow (step_on_of state fold stay.now edges.now rest) 256)) }
 {
+    let by_byte = edges_by_byte(edges);
     let mut lo = 0;
-    let mut last = step_on(state, fold, stay, edges, rest, 0);
+    let mut last = step_on(state, fold, stay, &by_byte, rest, 0);
     for b in 1..256u32 {
-        let step = step_on(state, fold, stay, edges, rest, b as u8);
+        let step = step_on(state, fold, stay, &by_byte, rest, b as u8);
         if step != last {
             push(flow, row_of(state, lo, (b - 1) as u8, last))?;
             lo = b as u8;

@@ -1,5 +1,6 @@
 // Programs that keep the rules.
 ghost use Rattle.std.specs.Prelude.{◌≡◌, ◌+◌, ◌<◌, Some, length, slice_get};
+ghost use Rattle.pp_program.specs.Runnable.{IsRunnable};
 ghost use Rattle.pp_program.specs.Valid.{IsVerified, IsInstrAt, IsOriginAt};
 ghost use Rattle.pp_program.specs.declared.program.State.{State};
 
@@ -42,10 +43,11 @@ impl Verified {
         }
     }
 
-    /// The greatest number of moves in a row that take no byte. The clause `verified` is what all else rests on.
+    /// The greatest number of moves in a row that take no byte. The clause `runnable` is what a run of the program rests on.
     pub fn gap(&self) -> u32
         ensures value { result ≡ self.now.gap }
         ensures verified { IsVerified self.now }
+        ensures runnable { IsRunnable self.now }
     {
         self.gap
     }

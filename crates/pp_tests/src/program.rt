@@ -5,7 +5,7 @@ use pp_bytes::Listed;
 use pp_graph::{Name, Reason};
 use pp_program::{
     Instr, Program, State, Verified, VerifyFault, VerifyRule, at_most_one_run, goes_on,
-    lies_in_its_string, longer_strings, none_twice, runs_end, verify,
+    lies_in_its_string, longer_strings, one_run, rank_table, verify,
 };
 use std::alloc::Global;
 use std::test::Fail;
@@ -16,8 +16,8 @@ fn laws_are_called() {
     goes_on();
     lies_in_its_string();
     longer_strings();
-    none_twice();
-    runs_end();
+    one_run();
+    rank_table();
 }
 
 // A program of one state, an error.

@@ -1,5 +1,5 @@
 -- Where the moves of a state lead, as its edges tell it.
-use Rattle.std.specs.Prelude.{◌≡◌, ℕ, ◌<◌, List, true, false, Option, Some, None, if◌then◌else◌, slice_get}
+use Rattle.std.specs.Prelude.{◌≡◌, ℕ, ◌<◌, List, true, false, Option, Some, None, ◌⊎◌, if◌then◌else◌, slice_get}
 use Rattle.std.specs.List.{Any}
 use Rattle.pp_bytes.specs.declared.fold.Fold.{Fold}
 use Rattle.pp_bytes.specs.Fold.{folded}
@@ -13,6 +13,10 @@ use Rattle.pp_program.specs.declared.program.Instr.TheVariants.{Branch, Invoke, 
 use Rattle.pp_program.specs.declared.program.State.{State}
 use Rattle.pp_program.specs.declared.branch.Step.{Step}
 use Rattle.pp_program.specs.States.{edge_on}
+
+-- a table of the first of these edges that has a byte, for each byte
+abbrev pub IsEdgeTable : List Edge → List (Option Edge) → Type 0
+IsEdgeTable edges table = (b : ℕ) → b < 256 → slice_get table b ≡ Some (edge_on b edges)
 
 -- the step of an edge, or of the rest
 abbrev pub edge_step : Rest → Option Edge → Step

@@ -16,14 +16,14 @@ loop-b-preserved c =
           rw (w.flow-is, w.lo-is, w.last-is) (
             steps-cut _ _ _ _ c.args.state step c.loop-b.last c.loop-b.lo (c.loop-b.b - 1) c.loop-b.b low next c.loop-b.invariant.2 w.row_of.ensures c.loop-b.invariant.0 w.in_ok-push.ensures,
             omega arith,
-            steps-here step c.step_on-step.result c.loop-b.b (sym c.step_on-step.ensures),
+            steps-here step c.step_on-step.result c.loop-b.b (sym (c.step_on-step.ensures c.args.edges.now c.edges_by_byte-by_byte.ensures)),
           )
       | else-ne w ↦
           let same : c.step_on-step.result ≡ c.loop-b.last = same-step _ _ c.ne.result c.ne.ensures w.if-ne.false in
           rw (w.flow-is, w.lo-is, w.last-is) (
             c.loop-b.invariant.0,
             omega (arith, c.loop-b.invariant.1),
-            steps-on step c.loop-b.last c.loop-b.lo c.loop-b.b c.loop-b.invariant.2 (sym c.step_on-step.ensures ∙ same),
+            steps-on step c.loop-b.last c.loop-b.lo c.loop-b.b c.loop-b.invariant.2 (sym (c.step_on-step.ensures c.args.edges.now c.edges_by_byte-by_byte.ensures) ∙ same),
           )
     ]
 
