@@ -5,13 +5,14 @@ use Rattle.std.proofs.lemmas.Bool.{eqb-true, eqb-false, ltb-true, ltb-false, le-
 use Rattle.pp_program.specs.declared.program.Edge.{Edge}
 use Rattle.pp_bytes.specs.Ranges.{in_pair}
 use Rattle.pp_program.specs.States.{edge_on}
+use Rattle.pp_program.proofs.MergeLaws.{AscendsFrom, EndsBelow, ends-higher, ends-append, ascends-append}
 use Rattle.pp_lower.specs.Tree.{listed, each_below}
 
-abbrev or_else : {A : Type 0} → Option A → Option A → Option A
+abbrev pub or_else : {A : Type 0} → Option A → Option A → Option A
 or_else (Some x) o = Some x
 or_else None o = o
 
-find-append : {A : Type 0} (test : A → Bool) (xs ys : List A) → find test (xs ++ ys) ≡ or_else (find test xs) (find test ys)
+pub find-append : {A : Type 0} (test : A → Bool) (xs ys : List A) → find test (xs ++ ys) ≡ or_else (find test xs) (find test ys)
 find-append test [] ys = refl
 find-append test (x ∷ xs) ys = go (test x) (find-append test xs ys)
   where
@@ -93,6 +94,25 @@ find_below edge own b (suc n) =
         let more : n ≤ b = ltb-false b n d in
         absurd (eqb-false b n e (omega arith))
     go false d false e false f = refl
+
+own_ascends : (n : ℕ) (o : Option Edge) → ((e : Edge) → o ≡ Some e → (e.lo ≡ n) × (e.hi ≡ n)) → AscendsFrom n (listed o)
+own_ascends n None h = tt
+own_ascends n (Some e) h = (let at : (e.lo ≡ n) × (e.hi ≡ n) = h e refl in (omega (arith, at.0), omega (arith, at.0, at.1), tt))
+
+own_ends : (n : ℕ) (o : Option Edge) → ((e : Edge) → o ≡ Some e → (e.lo ≡ n) × (e.hi ≡ n)) → EndsBelow (suc n) (listed o)
+own_ends n None h = tt
+own_ends n (Some e) h = (let at : (e.lo ≡ n) × (e.hi ≡ n) = h e refl in (omega (arith, at.1), tt))
+
+ends_below : (edge : ℕ → Option Edge) → OnOwn edge → (n : ℕ) → EndsBelow n (each_below edge n)
+ends_below edge own zero = tt
+ends_below edge own (suc n) =
+    ends-append (suc n) (each_below edge n) (listed (edge n)) (ends-higher n (suc n) (each_below edge n) (omega arith) (ends_below edge own n)) (own_ends n (edge n) (λ e. own n e))
+
+-- edges for each byte ascend
+pub own_ascend : (edge : ℕ → Option Edge) → OnOwn edge → (n : ℕ) → AscendsFrom 0 (each_below edge n)
+own_ascend edge own zero = tt
+own_ascend edge own (suc n) =
+    ascends-append 0 n (each_below edge n) (listed (edge n)) (omega arith) (own_ascend edge own n) (ends_below edge own n) (own_ascends n (edge n) (λ e. own n e))
 
 -- the edge on a byte is found, where bytes from 256 on have none
 pub find_edge : (edge : ℕ → Option Edge) → OnOwn edge → ((b : ℕ) → 256 ≤ b → edge b ≡ None) → (b : ℕ) →

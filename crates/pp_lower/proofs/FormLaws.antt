@@ -66,7 +66,7 @@ distinct_keys keys i j k l apart e f same = go (ltb i j) refl (ltb j i) refl
         let there : slice_get keys j ≡ Some k = subst (λ (n : ℕ). slice_get keys n ≡ Some k) at e in
         cc
 
-any_has : {X : Type 0} (test : X → Bool) (xs : List X) → list_any test xs ≡ true → (x : X) × Has xs x × (test x ≡ true)
+pub any_has : {X : Type 0} (test : X → Bool) (xs : List X) → list_any test xs ≡ true → (x : X) × Has xs x × (test x ≡ true)
 any_has test [] h = absurd cc
 any_has test (y ∷ xs) h = go (test y) refl h (any_has test xs)
   where

@@ -15,7 +15,9 @@ use Rattle.pp_bytes.specs.Fold.{folded}
 use Rattle.pp_event.specs.Turns.{to}
 use Rattle.pp_event.specs.Simulates.{Way, here, step, Bond}
 use Rattle.pp_mean.specs.Nodes.{match_turn, peek_turn, other_turn, rests_at}
-use Rattle.pp_program.specs.States.{state_turn, edge_turn, rest_turn, is_empty_branch}
+use Rattle.pp_program.specs.States.{state_turn, edge_on, edge_turn, rest_turn, is_empty_branch}
+use Rattle.pp_program.specs.Merge.{merged}
+use Rattle.pp_program.proofs.MergeLaws.{merged-finds, merged-empty, bare-turn}
 use Rattle.pp_lower.specs.Tree.{place_of, each_below}
 use Rattle.pp_lower.specs.Lowered.{inner_of, key_of, edge_by, edge_at, peek_of, rest_by, branch_of}
 use Rattle.pp_lower.specs.Kept.{node_reason, state_reason}
@@ -24,7 +26,7 @@ use Rattle.pp_lower.specs.steps.Order.{Has}
 use Rattle.pp_lower.proofs.Keys.{has_contains, IsInner, NoneBegins}
 use Rattle.pp_lower.proofs.MatchLaws.{turn_inside, turn_key, turn_last, turn_off}
 use Rattle.pp_lower.proofs.TreeLaws.{KeyIs, key_is, PlaceIs, place_is, get_has, inner_only, inner_there}
-use Rattle.pp_lower.proofs.EdgeLaws.{OnOwn, find_edge, some_edges}
+use Rattle.pp_lower.proofs.EdgeLaws.{OnOwn, find_edge, some_edges, own_ascend}
 use Rattle.pp_lower.proofs.WalkLaws.{turn_in, Walks, walks_step, own_by, peek_is, none_by, some_by, some_peek, no_edges, full_branch, skip_branch, empty_branch, key_or_none, peek_or_none, end_peeks, end_skip, end_plain}
 
 -- the state of a prefix
@@ -86,6 +88,8 @@ module _ (nodes : List Node) (roots : ℕ → ℕ) (states : List State) (fold :
       turn_in states d (b ∷ rest) ≡ edge_turn d (otherwise p) o
   turn_at d p rest b there o e =
       ap (λ (s : Option State). state_turn s d (b ∷ rest)) there
+      ∙ bare-turn d (otherwise p) (edge_on (folded fold b) (merged (each_below (edge p) 256))) (edge_on (folded fold b) (each_below (edge p) 256))
+      (merged-finds 0 (folded fold b) (each_below (edge p) 256) (own_ascend (edge p) (own p) 256))
       ∙ ap (edge_turn d (otherwise p)) (find_edge (edge p) (own p) (none p) (folded fold b) ∙ e)
 
   -- the turn at the end of the bytes
@@ -93,7 +97,7 @@ module _ (nodes : List Node) (roots : ℕ → ℕ) (states : List State) (fold :
       turn_in states d [] ≡ cond v (rest_turn d (otherwise p)) (Rests (record d { carried = 0 }))
   turn_end d p there v e =
       ap (λ (s : Option State). state_turn s d []) there
-      ∙ ap (λ (w : Bool). cond w (rest_turn d (otherwise p)) (Rests (record d { carried = 0 }))) e
+      ∙ ap (λ (w : Bool). cond w (rest_turn d (otherwise p)) (Rests (record d { carried = 0 }))) (merged-empty (each_below (edge p) 256) (otherwise p) ∙ e)
 
   -- both wait
   both_rest : (p behind whole text : List ℕ) (d : Config) → Stands [] p behind whole text d → is_empty_branch [] (each_below (edge p) 256) (otherwise p) ≡ false →

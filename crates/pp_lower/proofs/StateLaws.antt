@@ -24,7 +24,7 @@ get_add [] ys n = ap (slice_get ys) (zero-add n)
 get_add (x ∷ xs) ys n = ap (slice_get (x ∷ xs ++ ys)) (suc-add (length xs) n) ∙ get_add xs ys n
 
 -- as many states as the size says
-length-states : (roots : ℕ → ℕ) (origin root : ℕ) (k : Kind) → length (states_of roots origin root k) ≡ size k
+pub length-states : (roots : ℕ → ℕ) (origin root : ℕ) (k : Kind) → length (states_of roots origin root k) ≡ size k
 length-states roots origin root (kind.Match fold keys peeks other) =
     length-map (map (branch_of roots root fold keys peeks other) ([] ∷ inner_of keys)) (λ (i : Instr). record { origin = origin; instr = i })
     ∙ length-map ([] ∷ inner_of keys) (branch_of roots root fold keys peeks other)

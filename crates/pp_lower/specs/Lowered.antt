@@ -15,6 +15,7 @@ use Rattle.pp_program.specs.declared.program.Instr.{Instr}
 use Rattle.pp_program.specs.declared.program.Instr.TheVariants as instr
 use Rattle.pp_program.specs.declared.program.State.{State}
 use Rattle.pp_program.specs.declared.program.Program.{Program}
+use Rattle.pp_program.specs.Merge.{merged}
 use Rattle.pp_lower.specs.Tree.{inner_prefixes, place_of, each_below}
 
 -- the proper prefixes of a node's keys that aren't empty
@@ -64,10 +65,10 @@ abbrev pub rest_by : (ℕ → ℕ) → Other → Option Key → Rest
 rest_by roots other None = record { skip = other.skip; number = None; target = roots other.target }
 rest_by roots other (Some k) = record { skip = false; number = k.number; target = roots k.target }
 
--- the branch of the state of a prefix
+-- the branch of the state of a prefix, with an edge for each row of bytes on which it does the same
 abbrev pub branch_of : (ℕ → ℕ) → ℕ → Fold → List Key → List Peek → Other → List ℕ → Instr
 branch_of roots root fold keys peeks other prefix =
-    instr.Branch fold [] (each_below (edge_at roots root keys peeks prefix) 256) (rest_by roots other (key_of keys prefix))
+    instr.Branch fold [] (merged (each_below (edge_at roots root keys peeks prefix) 256)) (rest_by roots other (key_of keys prefix))
 
 -- answers in order of their numbers, with one more
 abbrev pub with_answer : Answer → List Answer → List Answer

@@ -2,6 +2,9 @@
 use Rattle.std.specs.Prelude.{ℕ, zero, suc, ◌-◌, List, [], ◌∷◌, ◌++◌, Option, Some, None, Bool, length, map, take, fold, bytes_eq, if◌then◌else◌, option_map}
 use Rattle.std.specs.Ordering.{nat_cmp, is_lt}
 use Rattle.std.specs.Cmp.Lexicographic.{slice_cmp}
+use Rattle.pp_graph.specs.declared.node.Key.{Key}
+use Rattle.pp_graph.specs.declared.node.Kind.{Kind}
+use Rattle.pp_graph.specs.declared.node.Kind.TheVariants.{Match, Invoke, Consume, SpanOpen, SpanClose, Pause, Fail}
 use Rattle.pp_lower.specs.declared.tree.TreeNode.{TreeNode}
 
 -- lexicographic order
@@ -53,11 +56,30 @@ each_below f (suc n) = each_below f n ++ listed (f n)
 abbrev pub link_of : List (List ℕ) → List ℕ → ℕ → Option (ℕ × ℕ)
 link_of list p b = option_map (λ i. (b, i)) (place_of (p ++ b ∷ []) list)
 
--- The node of a prefix: by each byte, in order, the place of the prefix that is longer by it, and the place of the key
--- that ends here.
-abbrev pub tree_node : List (List ℕ) → List ℕ → TreeNode
-tree_node texts p = record { next = each_below (link_of (prefixes texts) p) 256; key = place_of p texts }
+-- The node of a prefix among a list of them: by each byte, in order, the place of the prefix that is longer by it, and the
+-- place of the text that ends here.
+abbrev pub node_among : List (List ℕ) → List (List ℕ) → List ℕ → TreeNode
+node_among list texts p = record { next = each_below (link_of list p) 256; key = place_of p texts }
 
 -- the tree of keys with these bytes: a node for each prefix
 abbrev pub tree_of : List (List ℕ) → List TreeNode
-tree_of texts = map (tree_node texts) (prefixes texts)
+tree_of texts = map (node_among (prefixes texts) texts) (prefixes texts)
+
+abbrev pub IsMatch : Kind → Type 0
+IsMatch (Match fold keys peeks other) = Unit {0}
+IsMatch (Invoke code answers other) = ⊥
+IsMatch (Consume prop next) = ⊥
+IsMatch (SpanOpen span next) = ⊥
+IsMatch (SpanClose span next) = ⊥
+IsMatch (Pause code reason next) = ⊥
+IsMatch (Fail code reason) = ⊥
+
+-- the keys of a match node; another one has none
+abbrev pub keys_of : Kind → List Key
+keys_of (Match fold keys peeks other) = keys
+keys_of (Invoke code answers other) = []
+keys_of (Consume prop next) = []
+keys_of (SpanOpen span next) = []
+keys_of (SpanClose span next) = []
+keys_of (Pause code reason next) = []
+keys_of (Fail code reason) = []

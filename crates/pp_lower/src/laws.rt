@@ -1,9 +1,47 @@
 // Laws over the definitions, each the contract of a function without code.
-ghost use Rattle.pp_graph.specs.Plan.{Plan, IsWellFormed};
+ghost use Rattle.std.specs.Prelude.{◌≡◌, ◌<◌, ◌+◌, ◌^◌, ℕ, List, Some, length, slice_get, sum_by};
+ghost use Rattle.pp_graph.specs.declared.node.Node.{Node};
+ghost use Rattle.pp_graph.specs.Plan.{Plan, IsWellFormed, AreDistinct, key_bytes};
+ghost use Rattle.pp_event.specs.Run.{Oracle, RunResult};
+ghost use Rattle.pp_event.specs.Runs.{IsBounded};
+ghost use Rattle.pp_event.specs.Loops.{AreBytes};
+ghost use Rattle.pp_mean.specs.Mean.{Means};
+ghost use Rattle.pp_mean.specs.Loops.{IsLoopFree};
+ghost use Rattle.pp_check.specs.Spans.{SpansFit};
+ghost use Rattle.pp_program.specs.States.{ProgramMeans};
+ghost use Rattle.pp_program.specs.Valid.{StateFails, Holds};
+ghost use Rattle.pp_program.specs.declared.fault.VerifyRule.TheVariants as rules;
 ghost use Rattle.pp_lower.specs.Lowered.{lowered};
-ghost use Rattle.pp_lower.specs.Kept.{KeepsMeaning};
+ghost use Rattle.pp_lower.specs.Tree.{IsMatch, keys_of};
+ghost use Rattle.pp_lower.specs.Kept.{KeepsMeaning, SameRun};
 
-/// The program of a graph that keeps the rules means what the graph means, and nothing else.
+/// The program of a graph that keeps the rules means what the graph means: where the graph's run has a result, the run of
+/// the program has the same one, and no other.
 pub fn lowering_keeps()
     ensures { (g : Plan) → IsWellFormed g → KeepsMeaning g (lowered g) }
+{}
+
+/// Where such a graph has no loop, a run of its program, with answers of 32 bits on a string of bytes, is one of the graph.
+pub fn lowering_adds_none()
+    ensures { (g : Plan) (values bytes : List ℕ) (oracle : Oracle) (resumes : ℕ) (q : RunResult) → IsWellFormed g → IsLoopFree g →
+        IsBounded oracle → AreBytes bytes → ProgramMeans (lowered g) values bytes oracle resumes q →
+        (r : RunResult) × Means g values bytes oracle resumes r × SameRun g (lowered g) r q }
+{}
+
+/// The program of a graph that keeps the rules keeps those of programs: at each state that on targets, and those on widths
+/// and names; that on loops, where the graph has none; and that on spans, where they fit in the graph.
+pub fn lowering_fits()
+    ensures targets { (g : Plan) → IsWellFormed g → (at : ℕ) → StateFails (lowered g) at → ⊥ }
+    ensures widths { (g : Plan) → IsWellFormed g → Holds (lowered g) rules.Width }
+    ensures loops { (g : Plan) → IsWellFormed g → IsLoopFree g → Holds (lowered g) rules.Loop }
+    ensures spans { (g : Plan) → IsWellFormed g → SpansFit g → Holds (lowered g) rules.Spans }
+    ensures names { (g : Plan) → IsWellFormed g → Holds (lowered g) rules.Names }
+{}
+
+/// Each match node of a graph that keeps the rules has a key tree: its keys differ, and are short enough.
+pub fn nodes_have_trees()
+    ensures distinct { (g : Plan) (place : ℕ) (node : Node) → IsWellFormed g → slice_get g.nodes place ≡ Some node → IsMatch node.kind →
+        AreDistinct (key_bytes (keys_of node.kind)) }
+    ensures fits { (g : Plan) (place : ℕ) (node : Node) → IsWellFormed g → slice_get g.nodes place ≡ Some node → IsMatch node.kind →
+        sum_by length (key_bytes (keys_of node.kind)) + 1 < 2 ^ 32 }
 {}

@@ -1,8 +1,16 @@
 //! Lowering: from a graph to a program of states.
 #![tactic(auto)]
 
+mod answers;
+mod copies;
+mod edges;
 mod laws;
+mod links;
+mod lowered;
+mod states;
+mod texts;
 mod tree;
 
-pub use laws::lowering_keeps;
-pub use tree::{Tree, TreeNode};
+pub use laws::{lowering_adds_none, lowering_fits, lowering_keeps, nodes_have_trees};
+pub use lowered::{Lowered, lower};
+pub use tree::{Tree, TreeNode, key_tree};

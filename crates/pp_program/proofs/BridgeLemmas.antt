@@ -1,10 +1,10 @@
 -- The flow of a program has the moves of its machine.
-use Rattle.std.proofs.Common.{subst, ◌≡◌, ◌<◌, ℕ, suc, List, Option, length, inl, inr}
+use Rattle.std.proofs.Common.{subst, ◌≡◌, ◌<◌, ℕ, List, Option, length, inl, inr}
 use Rattle.std.specs.Prelude.{slice_get}
 use Rattle.std.proofs.lemmas.Option.{slice_get_past}
 use Rattle.std.proofs.lemmas.Bool.{cases_lt}
 use Rattle.pp_flow.specs.Chart.{Chart}
-use Rattle.pp_flow.specs.Rows.{Way, free as keeps}
+use Rattle.pp_flow.specs.Rows.{Way}
 use Rattle.pp_flow.proofs.RowLemmas.{free-ends, onward-ends}
 use Rattle.pp_event.proofs.FlowLemmas.{HasMoves}
 use Rattle.pp_program.specs.declared.program.State.{State}

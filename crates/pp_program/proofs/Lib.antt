@@ -9,6 +9,7 @@ pub mod SpanLemmas
 pub mod SoundLemmas
 pub mod TextLemmas
 pub mod VerifyLemmas
+pub mod MergeLaws
 pub mod ValidLaws
 pub mod RunnableLemmas
 pub mod StandLemmas

@@ -1,5 +1,5 @@
 -- Rows for the steps of a branch.
-use Rattle.std.proofs.Common.{subst, ◌≡◌, ◌↔◌, ℕ, ◌+◌, ◌≤◌, ◌<◌, ◌⊎◌, Bool, true, false, refl, sym, ◌∙◌, ap, arith, inl, inr, ◌&&◌, eqb}
+use Rattle.std.proofs.Common.{subst, ◌≡◌, ◌↔◌, ℕ, ◌+◌, ◌≤◌, ◌<◌, Bool, true, false, refl, sym, ◌∙◌, ap, arith, inl, inr, ◌&&◌, eqb}
 use mathlib.Core.Bool.{beq}
 use Rattle.std.specs.Prelude.{not}
 use Rattle.std.proofs.lemmas.Bool.{cases_lt, eqb-true, false≢true}

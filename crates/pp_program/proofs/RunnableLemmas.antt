@@ -1,9 +1,8 @@
 -- What the rules of programs give, as plain facts for runs.
-use Rattle.std.proofs.Common.{subst, ◌≡◌, ◌↔◌, ℕ, zero, suc, ◌+◌, ◌≤◌, ◌<◌, List, [], ◌∷◌, ◌++◌, Option, Some, None, Bool, true, false, cond, refl, sym, ◌∙◌, ap, arith, length, map, inl, inr, ◌⊎◌, ◌&&◌, ◌||◌}
+use Rattle.std.proofs.Common.{subst, ◌≡◌, ℕ, zero, suc, ◌+◌, ◌≤◌, ◌<◌, List, [], ◌∷◌, ◌++◌, Option, Some, None, Bool, true, false, cond, refl, sym, ◌∙◌, ap, arith, length, inl, inr, ◌&&◌}
 use Rattle.std.specs.Prelude.{slice_get, not, nat_lt, is_none, ◌==◌}
 use Rattle.std.specs.List.{list_all, list_any}
 use Rattle.std.proofs.lemmas.Bool.{cases_Bool, false≢true, leb-true, ltb-true, ltb-false, or_parts}
-use Rattle.std.proofs.lemmas.Option.{slice_get_within}
 use Rattle.pp_rules.specs.Names.{is_reason}
 use Rattle.pp_rules.specs.Widths.{greatest}
 use Rattle.pp_rules.specs.declared.declaration.PropDecl.{PropDecl}
@@ -18,9 +17,9 @@ use Rattle.pp_program.specs.declared.program.Instr.TheVariants.{Branch, Invoke, 
 use Rattle.pp_program.specs.declared.program.State.{State}
 use Rattle.pp_program.specs.declared.program.Program.{Program}
 use Rattle.pp_program.specs.declared.fault.VerifyRule.TheVariants.{Target, Width, Spans, Names}
-use Rattle.pp_program.specs.Names.{ReasonFails, reason_of, reasons_of}
+use Rattle.pp_program.specs.Names.{reason_of, reasons_of}
 use Rattle.pp_program.specs.Runnable.{CanHold, CodeFits, StoresFit, NumberFits, Suits, Leads, EdgesFit, RestFits, AnswersFit, InstrFits, StateFits, FinishFits, HasLimits, IsRunnable}
-use Rattle.pp_program.specs.Targets.{leads, is_plain_state, is_value_state, is_value_instr, is_edge, is_rest, is_answer, is_code, are_edges, are_answers, is_instr, is_state, is_frame, are_counts, in_row, row_behind, may_follow, is_alike, answer_follows, is_finish, is_match_host, most_edges, most_answers}
+use Rattle.pp_program.specs.Targets.{leads, is_plain_state, is_value_state, is_value_instr, is_edge, is_rest, is_answer, is_code, are_edges, are_answers, is_instr, is_state, are_counts, in_row, row_behind, may_follow, is_alike, answer_follows, is_finish, is_match_host, most_edges, most_answers}
 use Rattle.pp_program.specs.Valid.{Sound, Holds, IsVerified}
 use Rattle.pp_program.specs.Widths.{is_narrow, is_wide_code, is_narrow_code, is_narrow_instr, is_narrow_state, is_wide_number, is_wide_edge, is_wide_instr}
 use Rattle.pp_program.specs.steps.Rows.{Counts}

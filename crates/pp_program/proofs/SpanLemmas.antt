@@ -20,7 +20,7 @@ use Rattle.pp_program.specs.declared.program.Instr.TheVariants.{Branch, Invoke, 
 use Rattle.pp_program.specs.declared.program.State.{State}
 use Rattle.pp_program.specs.declared.program.Program.{Program}
 use Rattle.pp_program.specs.States.{edge_on}
-use Rattle.pp_program.specs.Edges.{HasEdge, EdgeFrom, IsEdge}
+use Rattle.pp_program.specs.Edges.{HasEdge, EdgeFrom}
 use Rattle.pp_program.specs.Spans.{ways}
 use Rattle.pp_program.specs.steps.Ends.{EndsOf, EndsAt, ends_of, edge_step}
 use Rattle.pp_program.specs.steps.Rows.{IsSound, LeadsWithin, IsFlowOf}

@@ -1,9 +1,8 @@
 -- Spans stand right at the entry of a program and behind each of its turns.
-use Rattle.std.proofs.Common.{subst, ◌≡◌, ◌↔◌, ℕ, zero, suc, ◌≤◌, ◌<◌, List, [], ◌∷◌, Option, Some, None, Bool, true, false, cond, refl, sym, ◌∙◌, ap, arith, length, set, replicate, inl, inr, ◌⊎◌}
+use Rattle.std.proofs.Common.{subst, ◌≡◌, ◌↔◌, ℕ, zero, suc, ◌<◌, List, [], ◌∷◌, Option, Some, None, Bool, true, false, cond, refl, sym, ◌∙◌, ap, length, set, replicate, inl, inr, ◌⊎◌}
 use Rattle.std.specs.Prelude.{slice_get, slice_index, ◌==◌, nat_le}
 use Rattle.std.specs.Int.{bit_at}
-use Rattle.std.specs.List.{Any}
-use Rattle.std.proofs.lemmas.Bool.{cases_Bool, false≢true, eqb-true, eqb-false}
+use Rattle.std.proofs.lemmas.Bool.{eqb-true, eqb-false}
 use Rattle.std.proofs.lemmas.List.{length-replicate, length-set}
 use Rattle.pp_bytes.specs.declared.fold.Fold.{Fold}
 use Rattle.pp_bytes.specs.Fold.{folded}
@@ -11,7 +10,7 @@ use Rattle.pp_bytes.specs.Ranges.{in_ranges}
 use Rattle.pp_graph.specs.declared.node.Answer.{Answer}
 use Rattle.pp_graph.specs.declared.node.Code.{Code}
 use Rattle.pp_event.specs.Codes.{answered, effect_of}
-use Rattle.pp_event.specs.Run.{Config, Turn, Goes, Asks, Rests, Stops, Fails}
+use Rattle.pp_event.specs.Run.{Config, Turn, Goes, Rests}
 use Rattle.pp_event.specs.Turns.{Effect, AsksHost, Answers, Sets, effect_turn, consumed, drained, slot, to}
 use Rattle.pp_event.proofs.JoinLaws.{slot-same, slot-other}
 use Rattle.pp_program.specs.declared.fault.VerifyRule.TheVariants.{Spans}

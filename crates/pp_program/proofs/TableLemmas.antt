@@ -1,9 +1,8 @@
 -- Tables of edges by their bytes.
 use Rattle.std.proofs.Common.{subst, ◌≡◌, ℕ, zero, suc, ◌+◌, ◌-◌, ◌≤◌, ◌<◌, List, [], ◌∷◌, Option, Some, None, Bool, true, false, cond, ◌&&◌, refl, sym, ◌∙◌, ap, arith, length, set, replicate, drop, get_or, leb, inl, inr, ◌⊎◌}
 use Rattle.std.specs.Prelude.{slice_get}
-use Rattle.std.proofs.lemmas.Bool.{cases_lt, leb-true, leb-false, le-leb, lt-leb, false≢true}
+use Rattle.std.proofs.lemmas.Bool.{cases_lt, leb-true, leb-false}
 use Rattle.std.proofs.lemmas.List.{length-set, drop_all}
-use Rattle.pp_bytes.specs.Ranges.{in_pair}
 use Rattle.pp_program.specs.declared.program.Edge.{Edge}
 use Rattle.pp_program.specs.States.{edge_on}
 use Rattle.pp_program.specs.steps.Ends.{IsEdgeTable}

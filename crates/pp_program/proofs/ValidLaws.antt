@@ -1,5 +1,5 @@
 -- A program without a loop has a run on each string of bytes, which comes to no state twice at one place.
-use Rattle.std.proofs.Common.{◌≡◌, ◌↔◌, ℕ, List, length, map, refl, inl, inr}
+use Rattle.std.proofs.Common.{◌↔◌, ℕ, List, length, map, refl, inl, inr}
 use Rattle.pp_event.specs.Chain.{stages}
 use Rattle.pp_event.specs.Loops.{AreBytes, NoneTwice, stand}
 use Rattle.pp_event.specs.Run.{Oracle, RunResult, move, start}

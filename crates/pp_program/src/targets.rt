@@ -70,8 +70,8 @@ fn same_number(a: Option<u32>, b: Option<u32>) -> bool
     }
 }
 
-// The edges do the same on their bytes.
-fn is_alike(a: &Edge, b: &Edge) -> bool
+/// The edges do the same on their bytes.
+pub(crate) fn is_alike(a: &Edge, b: &Edge) -> bool
     ensures { result ≡ is_alike_of a.now b.now }
 {
     a.take == b.take && same_number(a.number, b.number) && a.target == b.target

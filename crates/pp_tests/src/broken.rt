@@ -103,11 +103,7 @@ fn states_of(alloc: Global, instrs: Vec<Instr>) -> Result<Vec<State>, Fail> {
 }
 
 // A program that begins at its first state.
-fn program_of(
-    alloc: Global,
-    declared: Declared<'_>,
-    instrs: Vec<Instr>,
-) -> Result<Program, Fail> {
+fn program_of(alloc: Global, declared: Declared<'_>, instrs: Vec<Instr>) -> Result<Program, Fail> {
     Ok(Program {
         props: Listed::of(props_of(alloc, declared.widths)?),
         hosts: Listed::of(hosts_of(alloc, declared.hosts)?),
@@ -437,13 +433,19 @@ fn moves_that_take_no_byte_form_no_cycle(rt: HostRuntime) -> Result<(), Fail> {
     // a pause and an answer that lead back
     let second = pause(alloc, b"so", 1)?;
     let first = pause(alloc, b"so", 1)?;
-    assert_eq!(rt; two_with_fail(alloc, one_name(), first, second)?, at(VerifyRule::Loop, 1));
+    assert_eq!(rt;
+        two_with_fail(alloc, one_name(), first, second)?,
+        at(VerifyRule::Loop, 1)
+    );
     let answers = [Answer {
         number: 7,
         target: 0,
     }];
     let first = invoke(alloc, Code::Load { prop: 0 }, answers, 1)?;
-    assert_eq!(rt; with_fail(alloc, one_of_each(), first)?, at(VerifyRule::Loop, 0));
+    assert_eq!(rt;
+        with_fail(alloc, one_of_each(), first)?,
+        at(VerifyRule::Loop, 0)
+    );
     Ok(())
 }
 
@@ -460,7 +462,10 @@ fn spans_open_shut_and_close_open(rt: HostRuntime) -> Result<(), Fail> {
         at(VerifyRule::Spans, 1)
     );
     let close = Instr::SpanClose { span: 0, next: 1 };
-    assert_eq!(rt; with_fail(alloc, one_of_each(), close)?, at(VerifyRule::Spans, 0));
+    assert_eq!(rt;
+        with_fail(alloc, one_of_each(), close)?,
+        at(VerifyRule::Spans, 0)
+    );
     Ok(())
 }
 
@@ -607,7 +612,11 @@ fn entry_and_finish_rule_are_there(rt: HostRuntime) -> Result<(), Fail> {
 fn the_later_of_two_names_is_told(rt: HostRuntime) -> Result<(), Fail> {
     let alloc = rt.alloc();
     // two properties, two host codes and a span stand before the names
-    for (third, want) in [(2, None), (1, at(VerifyRule::Names, 7)), (0, at(VerifyRule::Names, 7))] {
+    for (third, want) in [
+        (2, None),
+        (1, at(VerifyRule::Names, 7)),
+        (0, at(VerifyRule::Names, 7)),
+    ] {
         let mut names = names_of(alloc, 2)?;
         names.push(name_of(alloc, third)?)?;
         let mut program = declares(alloc, one_of_each())?;
@@ -666,7 +675,10 @@ fn answers_to(alloc: Global, count: u32, target: u32) -> Result<Instr, Fail> {
 #[test]
 fn answers_have_a_limit(rt: HostRuntime) -> Result<(), Fail> {
     let alloc = rt.alloc();
-    assert_eq!(rt; with_fail(alloc, one_of_each(), answers_to(alloc, 65535, 1)?)?, None);
+    assert_eq!(rt;
+        with_fail(alloc, one_of_each(), answers_to(alloc, 65535, 1)?)?,
+        None
+    );
     assert_eq!(rt;
         with_fail(alloc, one_of_each(), answers_to(alloc, 65536, 1)?)?,
         at(VerifyRule::Target, 0)
@@ -694,7 +706,10 @@ fn edges_to(alloc: Global, more: bool, target: u32) -> Result<Instr, Fail> {
 #[test]
 fn edges_have_a_limit(rt: HostRuntime) -> Result<(), Fail> {
     let alloc = rt.alloc();
-    assert_eq!(rt; with_fail(alloc, one_name(), edges_to(alloc, false, 1)?)?, None);
+    assert_eq!(rt;
+        with_fail(alloc, one_name(), edges_to(alloc, false, 1)?)?,
+        None
+    );
     assert_eq!(rt;
         with_fail(alloc, one_name(), edges_to(alloc, true, 1)?)?,
         at(VerifyRule::Target, 0)

@@ -11,7 +11,8 @@ fn laws_are_called() {
 }
 
 // Opens a span, takes bytes up to a line feed, and closes it.
-const LINES: &str = "span w;entry o;node o open w;else -> r;node r match;peek \"\\n\" -> c;skip -> r;node c close w;else -> z;node z match;skip -> o";
+const LINES: &str =
+    "span w;entry o;node o open w;else -> r;node r match;peek \"\\n\" -> c;skip -> r;node c close w;else -> z;node z match;skip -> o";
 
 #[test]
 fn a_checked_graph_has_its_gap_and_its_open_spans(rt: HostRuntime) -> Result<(), Fail> {
@@ -32,7 +33,8 @@ fn a_checked_graph_has_its_gap_and_its_open_spans(rt: HostRuntime) -> Result<(),
 
 #[test]
 fn a_loop_has_its_cycle(rt: HostRuntime) -> Result<(), Fail> {
-    let statements = "entry z;node z match;skip -> y;node x match;else -> y;node y match;peek [b-d] -> x;else -> z";
+    let statements =
+        "entry z;node z match;skip -> y;node x match;else -> y;node y match;peek [b-d] -> x;else -> z";
     let graph = graph_of(rt.alloc(), statements)?;
     match check(rt.alloc(), graph) {
         Err(CheckFault::Loop { byte, cycle }) => {

@@ -18,6 +18,8 @@ mod frame;
 #[cfg(test)]
 mod graph;
 #[cfg(test)]
+mod http;
+#[cfg(test)]
 mod lower;
 #[cfg(test)]
 mod mean;
