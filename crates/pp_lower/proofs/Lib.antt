@@ -26,3 +26,8 @@ mod ValidSpans
 mod LoopWalks
 mod ValidLoops
 mod TreeForms
+mod EdgeCounts
+mod LengthLemmas
+mod FrameLemmas
+mod ValidLaws
+mod PrefixLaws

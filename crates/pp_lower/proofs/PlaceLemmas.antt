@@ -46,7 +46,7 @@ keys_short l (k ∷ keys) =
     omega (arith, one, rest, more)
 
 -- a node gives at most one state more than its weight
-size_light : (k : Kind) → size k ≤ suc (weight_of k)
+pub size_light : (k : Kind) → size k ≤ suc (weight_of k)
 size_light (Match folding keys peeks other) =
     let short : length (inner_of keys) ≤ 0 + sum_by (λ (k : Key). length k.bytes) keys = keys_short [] keys in
     omega (arith, short)
@@ -57,7 +57,7 @@ size_light (SpanClose span next) = omega arith
 size_light (Pause number reason next) = omega arith
 size_light (Fail number reason) = omega arith
 
-total_light : (nodes : List Node) → total nodes ≤ length nodes + sum_by (λ (n : Node). weight_of n.kind) nodes
+pub total_light : (nodes : List Node) → total nodes ≤ length nodes + sum_by (λ (n : Node). weight_of n.kind) nodes
 total_light [] = omega arith
 total_light (n ∷ nodes) =
     let one : size n.kind ≤ suc (weight_of n.kind) = size_light n.kind in
@@ -66,7 +66,7 @@ total_light (n ∷ nodes) =
     sum_by-cons (λ (x : Node). weight_of x.kind) n nodes in
     omega (arith, one, rest, more)
 
-leads_below : (g : Plan) (number : Option ℕ) (t : ℕ) → Leads g number t → t < length g.nodes
+pub leads_below : (g : Plan) (number : Option ℕ) (t : ℕ) → Leads g number t → t < length g.nodes
 leads_below g None t l = slice_get_within g.nodes t l.0 l.1
 leads_below g (Some number) t l = slice_get_within g.nodes t l.0 l.1
 

@@ -1,5 +1,5 @@
 // Laws over the definitions, each the contract of a function without code.
-ghost use Rattle.std.specs.Prelude.{◌≡◌, ◌<◌, ◌+◌, ◌^◌, ℕ, List, Some, length, slice_get, sum_by};
+ghost use Rattle.std.specs.Prelude.{◌≡◌, ◌<◌, ◌+◌, ◌^◌, ◌++◌, ◌⊎◌, [], ℕ, List, Some, length, slice_get, sum_by};
 ghost use Rattle.pp_graph.specs.declared.node.Node.{Node};
 ghost use Rattle.pp_graph.specs.Plan.{Plan, IsWellFormed, AreDistinct, key_bytes};
 ghost use Rattle.pp_event.specs.Run.{Oracle, RunResult};
@@ -9,10 +9,11 @@ ghost use Rattle.pp_mean.specs.Mean.{Means};
 ghost use Rattle.pp_mean.specs.Loops.{IsLoopFree};
 ghost use Rattle.pp_check.specs.Spans.{SpansFit};
 ghost use Rattle.pp_program.specs.States.{ProgramMeans};
-ghost use Rattle.pp_program.specs.Valid.{StateFails, Holds};
+ghost use Rattle.pp_program.specs.Valid.{Holds, IsValid};
 ghost use Rattle.pp_program.specs.declared.fault.VerifyRule.TheVariants as rules;
 ghost use Rattle.pp_lower.specs.Lowered.{lowered};
-ghost use Rattle.pp_lower.specs.Tree.{IsMatch, keys_of};
+ghost use Rattle.pp_lower.specs.Tree.{IsMatch, keys_of, prefixes};
+ghost use Rattle.pp_lower.specs.steps.Order.{Has, IsOrdered};
 ghost use Rattle.pp_lower.specs.Kept.{KeepsMeaning, SameRun};
 
 /// The program of a graph that keeps the rules means what the graph means: where the graph's run has a result, the run of
@@ -28,10 +29,12 @@ pub fn lowering_adds_none()
         (r : RunResult) × Means g values bytes oracle resumes r × SameRun g (lowered g) r q }
 {}
 
-/// The program of a graph that keeps the rules keeps those of programs: at each state that on targets, and those on widths
-/// and names; that on loops, where the graph has none; and that on spans, where they fit in the graph.
-pub fn lowering_fits()
-    ensures targets { (g : Plan) → IsWellFormed g → (at : ℕ) → StateFails (lowered g) at → ⊥ }
+/// The program of a graph that keeps the rules keeps those of programs: that on targets, with all counts and the length of
+/// its file, and those on widths and names; that on loops, where the graph has none; and that on spans, where they fit in the
+/// graph. So what `lower` gives is valid.
+pub fn lowered_is_valid()
+    ensures valid { (g : Plan) → IsWellFormed g → IsLoopFree g → SpansFit g → IsValid (lowered g) }
+    ensures targets { (g : Plan) → IsWellFormed g → Holds (lowered g) rules.Target }
     ensures widths { (g : Plan) → IsWellFormed g → Holds (lowered g) rules.Width }
     ensures loops { (g : Plan) → IsWellFormed g → IsLoopFree g → Holds (lowered g) rules.Loop }
     ensures spans { (g : Plan) → IsWellFormed g → SpansFit g → Holds (lowered g) rules.Spans }
@@ -44,4 +47,12 @@ pub fn nodes_have_trees()
         AreDistinct (key_bytes (keys_of node.kind)) }
     ensures fits { (g : Plan) (place : ℕ) (node : Node) → IsWellFormed g → slice_get g.nodes place ≡ Some node → IsMatch node.kind →
         sum_by length (key_bytes (keys_of node.kind)) + 1 < 2 ^ 32 }
+{}
+
+/// The prefixes of texts are exactly their fronts and the empty one, each once: they stand in strict lexicographic order, the
+/// empty one first.
+pub fn prefixes_in_order()
+    ensures ordered { (texts : List (List ℕ)) → IsOrdered (prefixes texts) }
+    ensures only { (texts : List (List ℕ)) (p : List ℕ) → Has (prefixes texts) p → (p ≡ []) ⊎ ((text more : List ℕ) × Has texts text × (text ≡ p ++ more)) }
+    ensures there { (texts : List (List ℕ)) (text p more : List ℕ) → Has texts text → text ≡ p ++ more → Has (prefixes texts) p }
 {}

@@ -11,6 +11,8 @@ mod states;
 mod texts;
 mod tree;
 
-pub use laws::{lowering_adds_none, lowering_fits, lowering_keeps, nodes_have_trees};
+pub use laws::{
+    lowered_is_valid, lowering_adds_none, lowering_keeps, nodes_have_trees, prefixes_in_order,
+};
 pub use lowered::{Lowered, lower};
 pub use tree::{Tree, TreeNode, key_tree};

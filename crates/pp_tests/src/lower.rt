@@ -3,7 +3,8 @@ use crate::mean::graph_of;
 use pp_check::check;
 use pp_graph::{Graph, Kind};
 use pp_lower::{
-    Tree, key_tree, lower, lowering_adds_none, lowering_fits, lowering_keeps, nodes_have_trees,
+    Tree, key_tree, lower, lowered_is_valid, lowering_adds_none, lowering_keeps, nodes_have_trees,
+    prefixes_in_order,
 };
 use pp_program::{Edge, Instr, Rest};
 use std::alloc::Global;
@@ -12,9 +13,10 @@ use std::test::Fail;
 #[test]
 fn laws_are_called() {
     lowering_adds_none();
-    lowering_fits();
+    lowered_is_valid();
     lowering_keeps();
     nodes_have_trees();
+    prefixes_in_order();
 }
 
 // Two keys, one of which begins the other.
