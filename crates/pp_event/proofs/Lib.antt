@@ -6,6 +6,7 @@ pub mod TurnLaws
 pub mod OnceLemmas
 pub mod LoopLaws
 pub mod ReturnLaws
+pub mod ValueLemmas
 pub mod AskedLaws
 pub mod CameLaws
 pub mod AgreeLaws

@@ -4,6 +4,8 @@ pub mod Answers
 pub mod Steady
 pub mod Turns
 pub mod Codes
+pub mod Effects
+pub mod Values
 pub mod Loops
 pub mod Simulates
 pub mod Runs

@@ -2,6 +2,7 @@
 //! Its definitions say what a run is, once for every machine.
 #![tactic(auto)]
 
+mod effect;
 mod event;
 mod host;
 mod item;
@@ -13,6 +14,7 @@ mod script;
 mod scripted;
 mod spans;
 
+pub use effect::{Effect, answered, effect_of};
 pub use event::Event;
 pub use host::{Host, Reply};
 pub use item::Item;

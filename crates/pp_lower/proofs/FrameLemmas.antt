@@ -40,6 +40,15 @@ states_count roots origin root (n ∷ nodes) =
     length-append (states_of roots origin root n.kind) (states_from roots (suc origin) (root + size n.kind) nodes) in
     omega (arith, here, rest, all)
 
+-- a well-formed graph gives so many states at most: one for each node, and one for each unit of weight
+pub few_states : (g : Plan) → IsWellFormed g → length (lowered g).states ≤ 24096
+few_states g form =
+    let few_nodes : length g.nodes ≤ 4096 = form.few_nodes in
+    let light : sum_by (λ (n : Node). weight_of n.kind) g.nodes ≤ 20000 = form.light in
+    let count : length (lowered g).states ≡ root_of g.nodes (length g.nodes) = states_count (root_of g.nodes) 0 0 g.nodes in
+    let most : root_of g.nodes (length g.nodes) ≤ length g.nodes + sum_by (λ (n : Node). weight_of n.kind) g.nodes = total_light g.nodes in
+    omega (arith, few_nodes, light, count, most)
+
 size_least : (k : Kind) → 1 ≤ size k
 size_least (Match folding keys peeks other) = omega arith
 size_least (Invoke what answers other) = omega arith

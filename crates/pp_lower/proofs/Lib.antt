@@ -28,6 +28,7 @@ mod ValidLoops
 mod TreeForms
 mod EdgeCounts
 mod LengthLemmas
-mod FrameLemmas
-mod ValidLaws
+pub mod FrameLemmas
+pub mod ValidLaws
+pub mod EmptyLaws
 mod PrefixLaws

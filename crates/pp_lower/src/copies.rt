@@ -8,10 +8,7 @@ use pp_rules::{HostDecl, Name, PropDecl, Reason, SpanDecl};
 use std::alloc::{AllocError, Global};
 
 /// The properties.
-pub(crate) fn copy_of_props(
-    alloc: Global,
-    props: &[PropDecl],
-) -> Result<Listed<PropDecl>, AllocError>
+pub fn copy_of_props(alloc: Global, props: &[PropDecl]) -> Result<Listed<PropDecl>, AllocError>
     ensures { IfOk result (λ l. l ≡ props.now) }
 {
     let mut list = Vec::new(alloc);
@@ -27,10 +24,7 @@ pub(crate) fn copy_of_props(
 }
 
 /// The host codes.
-pub(crate) fn copy_of_hosts(
-    alloc: Global,
-    hosts: &[HostDecl],
-) -> Result<Listed<HostDecl>, AllocError>
+pub fn copy_of_hosts(alloc: Global, hosts: &[HostDecl]) -> Result<Listed<HostDecl>, AllocError>
     ensures { IfOk result (λ l. l ≡ hosts.now) }
 {
     let mut list = Vec::new(alloc);
@@ -46,10 +40,7 @@ pub(crate) fn copy_of_hosts(
 }
 
 /// The spans.
-pub(crate) fn copy_of_spans(
-    alloc: Global,
-    spans: &[SpanDecl],
-) -> Result<Listed<SpanDecl>, AllocError>
+pub fn copy_of_spans(alloc: Global, spans: &[SpanDecl]) -> Result<Listed<SpanDecl>, AllocError>
     ensures { IfOk result (λ l. l ≡ spans.now) }
 {
     let mut list = Vec::new(alloc);
@@ -75,15 +66,15 @@ pub(crate) fn copy_of_names(alloc: Global, nodes: &[Node]) -> Result<Listed<Name
 }
 
 /// The same reason.
-pub(crate) fn copy_of_reason(alloc: Global, reason: &Reason) -> Result<Reason, AllocError>
+pub fn copy_of_reason(alloc: Global, reason: &Reason) -> Result<Reason, AllocError>
     ensures { IfOk result (λ r. r ≡ reason.now) }
 {
     let copy = Reason::new(alloc, reason.bytes())?;
     Ok(copy)
 }
 
-// The same name.
-fn copy_of_name(alloc: Global, name: &Name) -> Result<Name, AllocError>
+/// The same name.
+pub fn copy_of_name(alloc: Global, name: &Name) -> Result<Name, AllocError>
     ensures { IfOk result (λ n. n ≡ name.now) }
 {
     let copy = Name::new(alloc, name.bytes())?;

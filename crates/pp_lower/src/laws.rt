@@ -1,5 +1,5 @@
 // Laws over the definitions, each the contract of a function without code.
-ghost use Rattle.std.specs.Prelude.{◌≡◌, ◌<◌, ◌+◌, ◌^◌, ◌++◌, ◌⊎◌, [], ℕ, List, Some, length, slice_get, sum_by};
+ghost use Rattle.std.specs.Prelude.{◌≡◌, ◌<◌, ◌≤◌, ◌+◌, ◌^◌, ◌++◌, ◌⊎◌, [], ℕ, List, Some, None, length, slice_get, sum_by};
 ghost use Rattle.pp_graph.specs.declared.node.Node.{Node};
 ghost use Rattle.pp_graph.specs.Plan.{Plan, IsWellFormed, AreDistinct, key_bytes};
 ghost use Rattle.pp_event.specs.Run.{Oracle, RunResult};
@@ -8,6 +8,10 @@ ghost use Rattle.pp_event.specs.Loops.{AreBytes};
 ghost use Rattle.pp_mean.specs.Mean.{Means};
 ghost use Rattle.pp_mean.specs.Loops.{IsLoopFree};
 ghost use Rattle.pp_check.specs.Spans.{SpansFit};
+ghost use Rattle.pp_bytes.specs.declared.fold.Fold.{Fold};
+ghost use Rattle.pp_program.specs.declared.program.Rest.{Rest};
+ghost use Rattle.pp_program.specs.declared.program.Instr.TheVariants.{Branch};
+ghost use Rattle.pp_program.specs.declared.program.State.{State};
 ghost use Rattle.pp_program.specs.States.{ProgramMeans};
 ghost use Rattle.pp_program.specs.Valid.{Holds, IsValid};
 ghost use Rattle.pp_program.specs.declared.fault.VerifyRule.TheVariants as rules;
@@ -39,6 +43,13 @@ pub fn lowered_is_valid()
     ensures loops { (g : Plan) → IsWellFormed g → IsLoopFree g → Holds (lowered g) rules.Loop }
     ensures spans { (g : Plan) → IsWellFormed g → SpansFit g → Holds (lowered g) rules.Spans }
     ensures names { (g : Plan) → IsWellFormed g → Holds (lowered g) rules.Names }
+{}
+
+/// The program of a graph that keeps the rules has at most 24,096 states. Where one has no edge, its rest carries no number.
+pub fn lowered_states()
+    ensures few { (g : Plan) → IsWellFormed g → length (lowered g).states ≤ 24096 }
+    ensures bare { (g : Plan) → IsWellFormed g → (n : ℕ) (s : State) → slice_get (lowered g).states n ≡ Some s →
+        (fold : Fold) (stay : List (ℕ × ℕ)) (rest : Rest) → s.instr ≡ Branch fold stay [] rest → rest.number ≡ None }
 {}
 
 /// Each match node of a graph that keeps the rules has a key tree: its keys differ, and are short enough.

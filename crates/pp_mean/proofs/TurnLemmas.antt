@@ -19,7 +19,8 @@ use Rattle.pp_event.specs.Run.{Config, Turn, Goes, Asks, Rests, Stops, Fails}
 use Rattle.pp_event.specs.Turns.{Effect, AsksHost, Answers, Sets, to, effect_turn, consume_turn, consumed, drained}
 use Rattle.pp_event.specs.Codes.{answered, target_or, effect_of}
 use Rattle.pp_mean.specs.Nodes.{reach, best, waits, key_turn, peek_turn, other_turn, peek_at, rests_at, match_turn, kind_turn}
-use Rattle.pp_mean.specs.Steps.{Uses, UsesKind}
+use Rattle.pp_event.specs.Effects.{Uses}
+use Rattle.pp_mean.specs.Steps.{UsesKind}
 use Rattle.pp_mean.proofs.MatchLemmas.{best-is, best-le, reach-le, skip-within}
 
 -- a configuration with a node of the graph, and a value and a slot for each property and span

@@ -18,7 +18,8 @@ use Rattle.pp_event.specs.Loops.{stand, NoneTwice}
 use Rattle.pp_event.proofs.ChainLaws.{after_on, stages_on, over_after}
 use Rattle.pp_event.proofs.OnceLemmas.{Contains_nothing, Contains_one, Contains_here, NoneTwice_more}
 use Rattle.pp_mean.specs.Nodes.{graph_turn, node_turn, kind_turn}
-use Rattle.pp_mean.specs.Mean.{with_sets, values_by}
+use Rattle.pp_event.proofs.ValueLemmas.{values_of-length}
+use Rattle.pp_mean.specs.Mean.{values_by}
 use Rattle.pp_mean.specs.declared.whole.End.{End}
 use Rattle.pp_mean.specs.declared.whole.WholeRun.{WholeRun}
 use Rattle.pp_mean.specs.Steps.{Made, ShowsStage, UsesKind}
@@ -332,9 +333,5 @@ stands_from x s seen node at nodes d v come w same node_is at_is read fresh =
     }
 
 -- sets keep the number of values
-with_sets-length : (sets : List (ℕ × ℕ)) (values : List ℕ) → length (with_sets sets values) ≡ length values
-with_sets-length [] values = refl
-with_sets-length (set_one ∷ sets) values = with_sets-length sets (set values set_one.0 set_one.1) ∙ length-set values set_one.0 set_one.1
-
 pub values_by-length : (g : Plan) (sets : List (ℕ × ℕ)) → length (values_by g sets) ≡ length g.props
-values_by-length g sets = with_sets-length sets (replicate (length g.props) 0) ∙ length-replicate (length g.props) 0
+values_by-length g sets = values_of-length (length g.props) sets

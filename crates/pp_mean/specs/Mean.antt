@@ -1,6 +1,7 @@
 -- The meaning of a graph on a whole string.
-use Rattle.std.specs.Prelude.{ℕ, List, [], ◌∷◌, None, All, length, replicate, slice_set}
+use Rattle.std.specs.Prelude.{ℕ, List, None, All, length, replicate}
 use Rattle.pp_event.specs.Run.{Config, Oracle, RunResult, RunEnds}
+use Rattle.pp_event.specs.Values.{values_of}
 use Rattle.pp_graph.specs.Plan.{Plan, Holds}
 use Rattle.pp_mean.specs.Nodes.{graph_turn}
 
@@ -13,14 +14,9 @@ entry_with g values = record { node = g.entry; at = 0; carried = 0; values = val
 abbrev pub Means : Plan → List ℕ → List ℕ → Oracle → ℕ → RunResult → Type 0
 Means g values bytes oracle resumes r = RunEnds (graph_turn g) oracle (entry_with g values) bytes resumes r
 
--- values with these set in turn, each by the place of its property: the last of one property stays
-abbrev pub with_sets : List (ℕ × ℕ) → List ℕ → List ℕ
-with_sets [] values = values
-with_sets (set ∷ sets) values = with_sets sets (slice_set values set.0 set.1)
-
 -- the values that a run begins with: 0 for each property, and then these sets
 abbrev pub values_by : Plan → List (ℕ × ℕ) → List ℕ
-values_by g sets = with_sets sets (replicate (length g.props) 0)
+values_by g sets = values_of (length g.props) sets
 
 -- each set names a property of the graph, by its place, and its value fits the property
 abbrev pub SetsFit : Plan → List (ℕ × ℕ) → Type 0

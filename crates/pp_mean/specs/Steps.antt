@@ -1,7 +1,5 @@
 -- What the steps of `run_whole` do, by the turns and moves of the meaning.
 use Rattle.std.specs.Prelude.{◌≡◌, ℕ, ◌+◌, ◌<◌, List, [], Option, Some, None, length, drop, unwrap_or, Bool, ◌==◌, ◌&&◌, nat_lt, if◌then◌else◌, slice_index, count_by}
-use Rattle.pp_graph.specs.declared.node.Code.{Code}
-use Rattle.pp_graph.specs.declared.node.Code.TheVariants as code
 use Rattle.pp_graph.specs.declared.node.Key.{Key}
 use Rattle.pp_graph.specs.declared.node.Kind.{Kind}
 use Rattle.pp_graph.specs.declared.node.Kind.TheVariants.{Match, Invoke, Consume, SpanOpen, SpanClose, Pause, Fail}
@@ -9,9 +7,8 @@ use Rattle.pp_event.specs.declared.item.Item.{Item}
 use Rattle.pp_event.specs.Answers.{is_call_of}
 use Rattle.pp_event.specs.Chain.{Move, On, Over}
 use Rattle.pp_event.specs.Run.{Config, Turn, Rests, Stage, RunResult, Finish}
-use Rattle.pp_event.specs.Turns.{Effect, AsksHost, Answers, Sets, to}
-use Rattle.pp_mean.specs.declared.effect.Effect.{Effect as CodeEffect}
-use Rattle.pp_mean.specs.declared.effect.Effect.TheVariants as effect
+use Rattle.pp_event.specs.Effects.{Uses}
+use Rattle.pp_event.specs.Turns.{to}
 use Rattle.pp_mean.specs.declared.matching.Edge.{Edge}
 use Rattle.pp_mean.specs.declared.whole.End.{End}
 use Rattle.pp_mean.specs.declared.whole.WholeRun.{WholeRun}
@@ -36,28 +33,6 @@ abbrev pub farther : Option Edge → Option Edge → Option Edge
 farther None b = b
 farther (Some e) None = Some e
 farther (Some e) (Some f) = if nat_lt e.taken f.taken then Some f else Some e
-
--- an effect of the code as one of the meaning
-abbrev pub seen_effect : CodeEffect → Effect
-seen_effect (effect.AsksHost host) = AsksHost host
-seen_effect (effect.Answers answer) = Answers answer
-seen_effect (effect.Sets prop value) = Sets prop value
-
--- sets a property to this product, or answers 1 where it passes the most
-abbrev pub product_effect : ℕ → ℕ → ℕ → Effect
-product_effect prop product most = if nat_lt most product then Answers 1 else Sets prop product
-
--- a code uses one of so many properties, or a host code below 64
-abbrev pub Uses : ℕ → Code → Type 0
-Uses props (code.Call host) = host < 64
-Uses props (code.Store prop) = prop < props
-Uses props (code.Load prop) = prop < props
-Uses props (code.Update prop value) = prop < props
-Uses props (code.Equal prop value) = prop < props
-Uses props (code.And prop value) = prop < props
-Uses props (code.Or prop value) = prop < props
-Uses props (code.Test prop value) = prop < props
-Uses props (code.MulAdd prop base most) = prop < props
 
 -- a node of this kind uses properties and spans that are there
 abbrev pub UsesKind : Config → Kind → Type 0

@@ -1,7 +1,6 @@
 //! What a graph means: its run on a whole string.
 #![tactic(auto)]
 
-mod effect;
 mod items;
 mod laws;
 mod matching;

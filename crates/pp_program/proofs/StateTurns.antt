@@ -95,7 +95,7 @@ goes_if : (b : Bool) (t u : Turn) (d : Config) → (t ≡ Rests d → ⊥) → (
 goes_if true t u d p q h = p h
 goes_if false t u d p q h = q h
 
-branch-rests : (c d : Config) (fold : Fold) (stay : List (ℕ × ℕ)) (edges : List Edge) (rest : Rest) (bytes : List ℕ) →
+pub branch-rests : (c d : Config) (fold : Fold) (stay : List (ℕ × ℕ)) (edges : List Edge) (rest : Rest) (bytes : List ℕ) →
     branch_turn c fold stay edges rest bytes ≡ Rests d → (bytes ≡ []) × (idle c ≡ d)
 branch-rests c d fold stay edges rest [] h =
     (refl, rests_only_if (is_empty_branch stay edges rest) (rest_turn c rest) (idle c) d (edge-goes c d rest None) h)

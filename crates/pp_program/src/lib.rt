@@ -22,3 +22,4 @@ pub use merge::merge_edges;
 pub use program::{Edge, Instr, Program, Rest, State};
 pub use verification::verify;
 pub use verified::Verified;
+pub use widths::greatest;

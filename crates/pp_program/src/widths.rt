@@ -9,8 +9,8 @@ use crate::program::{Edge, Instr, Program};
 use pp_graph::Code;
 use pp_rules::Width;
 
-// The greatest value of a width.
-fn greatest(width: Width) -> u64
+/// The greatest value of a property of this width.
+pub fn greatest(width: Width) -> u64
     ensures { result ≡ greatest_of width }
 {
     match width {

@@ -3,8 +3,8 @@ use crate::mean::graph_of;
 use pp_check::check;
 use pp_graph::{Graph, Kind};
 use pp_lower::{
-    Tree, key_tree, lower, lowered_is_valid, lowering_adds_none, lowering_keeps, nodes_have_trees,
-    prefixes_in_order,
+    Tree, key_tree, lower, lowered_is_valid, lowered_states, lowering_adds_none, lowering_keeps,
+    nodes_have_trees, prefixes_in_order,
 };
 use pp_program::{Edge, Instr, Rest};
 use std::alloc::Global;
@@ -14,6 +14,7 @@ use std::test::Fail;
 fn laws_are_called() {
     lowering_adds_none();
     lowered_is_valid();
+    lowered_states();
     lowering_keeps();
     nodes_have_trees();
     prefixes_in_order();

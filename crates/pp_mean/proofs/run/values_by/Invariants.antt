@@ -1,5 +1,6 @@
 use Rattle.std.proofs.Common.{◌≡◌, length, drop}
-use Rattle.pp_mean.specs.Mean.{values_by, with_sets}
+use Rattle.pp_event.specs.Values.{with_sets}
+use Rattle.pp_mean.specs.Mean.{values_by}
 use Rattle.pp_mean.proofs.run.values_by.Given as goal
 
 abbrev pub invariant-loop-prop : goal.invariant-loop-prop

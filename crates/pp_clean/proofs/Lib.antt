@@ -1,0 +1,31 @@
+pub mod KeepsLaws
+pub mod RenameLaws
+pub mod SkipLaws
+pub mod ReachLaws
+pub mod SameLaws
+pub mod MergeLaws
+pub mod NamesLaws
+pub mod MappedLaws
+pub mod FinishedLaws
+mod Pigeons
+pub mod EndlessLaws
+pub mod ResultLaws
+pub mod SpanLaws
+pub mod SearchLaws
+pub mod TableLaws
+pub mod LayoutLaws
+pub mod BuildLaws
+pub mod MakeLaws
+pub mod LoopFreeLaws
+pub mod LoopTrimLaws
+pub mod AcrossLaws
+pub mod LengthLaws
+pub mod TargetLaws
+pub mod WidthLaws
+pub mod TextLaws
+pub mod StillValidLaws
+pub mod LoweredLaws
+pub mod MeaningLaws
+pub mod CountLaws
+pub mod FinalLaws
+mod Rows

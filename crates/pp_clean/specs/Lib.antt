@@ -1,0 +1,10 @@
+pub mod Map
+pub mod Keeps
+pub mod Skip
+pub mod Reach
+pub mod Merge
+pub mod Names
+pub mod Finished
+pub mod Search
+pub mod Tables
+pub mod Layout

@@ -1,0 +1,15 @@
+pub mod EdgeLaws
+pub mod AskLaws
+pub mod FitLaws
+pub mod ParserLaws
+pub mod KeptLaws
+pub mod LevelLaws
+pub mod FireLaws
+pub mod GoingLaws
+pub mod JoinLaws
+pub mod TileLaws
+pub mod EffectLaws
+pub mod PartLaws
+pub mod SessionLaws
+pub mod OpenLaws
+pub mod SetLaws

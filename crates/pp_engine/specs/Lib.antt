@@ -1,0 +1,9 @@
+pub mod Sets
+pub mod Spots
+pub mod Feeds
+pub mod Stood
+pub mod Parsers
+pub mod Finishing
+pub mod Parted
+pub mod Sessions
+pub mod Adds

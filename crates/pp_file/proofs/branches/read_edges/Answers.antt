@@ -1,0 +1,19 @@
+use Rattle.std.proofs.Common.{◌≡◌, ◌++◌, ◌∷◌, [], Ok, None, ap, sym, ◌∙◌}
+use Rattle.std.proofs.lemmas.Result.{err_from_is_err_and}
+use Rattle.pp_file.specs.Fields.{items_at}
+use Rattle.pp_file.specs.Parts.{edge_at}
+use Rattle.pp_file.proofs.LoopLemmas.{goes_on, stops, is_done}
+use Rattle.pp_file.proofs.branches.read_edges.Goals as goal
+
+pub returns-in_err-edge : goal.returns-in_err-edge
+returns-in_err-edge c =
+    let p = err_from_is_err_and c.from_residual.result c.from_residual.ensures.1 in
+    rw (p.1, p.2) (stops edge_at c.in_err-edge.field-0.0 c.loop.edges.items c.args.count c.loop.counter c.loop.before c.loop.cursor (items_at edge_at c.args.count None c.args.cursor.now) c.loop-test.true c.in_err-edge.ensures c.loop.invariant)
+
+pub loop-preserved : goal.loop-preserved
+loop-preserved c =
+    rw c.in_ok-push.ensures.items (goes_on edge_at c.loop.edges.items c.args.count c.loop.counter c.loop.before c.loop.cursor c.in_ok-edge.edge c.read_edge.new.cursor (items_at edge_at c.args.count None c.args.cursor.now) c.loop-test.true c.in_ok-edge.ensures c.loop.invariant)
+
+pub returns : goal.returns
+returns c =
+    rw c.of.ensures (is_done edge_at c.loop.edges.items c.args.count c.loop.counter c.loop.before c.loop.cursor (items_at edge_at c.args.count None c.args.cursor.now) c.loop-test.false c.loop.invariant)

@@ -1,0 +1,7 @@
+use Rattle.std.proofs.Common.{◌≡◌, ◌-◌}
+use Rattle.pp_file.specs.Fields.{any_at, text_at}
+use Rattle.pp_file.proofs.LoopLemmas.{with_front}
+use Rattle.pp_file.proofs.declarations.read_names.Given as goal
+
+abbrev pub invariant-loop : goal.invariant-loop
+invariant-loop l = with_front l.names.items (any_at text_at (l.count - l.counter) l.cursor) ≡ any_at text_at l.count l.fn.cursor

@@ -1,0 +1,19 @@
+use Rattle.std.proofs.Common.{◌≡◌, ◌++◌, ◌∷◌, [], Ok, None, ap, sym, ◌∙◌}
+use Rattle.std.proofs.lemmas.Result.{err_from_is_err_and}
+use Rattle.pp_file.specs.Fields.{any_at}
+use Rattle.pp_file.specs.Parts.{span_at}
+use Rattle.pp_file.proofs.LoopLemmas.{goes_on_freely, stops, is_done}
+use Rattle.pp_file.proofs.declarations.read_spans.Goals as goal
+
+pub returns-in_err-span : goal.returns-in_err-span
+returns-in_err-span c =
+    let p = err_from_is_err_and c.from_residual.result c.from_residual.ensures.1 in
+    rw (p.1, p.2) (stops (λ _. span_at) c.in_err-span.field-0.0 c.loop.spans.items c.args.count c.loop.counter None c.loop.cursor (any_at span_at c.args.count c.args.cursor.now) c.loop-test.true c.in_err-span.ensures c.loop.invariant)
+
+pub loop-preserved : goal.loop-preserved
+loop-preserved c =
+    rw c.in_ok-push.ensures.items (goes_on_freely span_at c.loop.spans.items c.args.count c.loop.counter c.loop.cursor c.in_ok-span.span c.read_span.new.cursor (any_at span_at c.args.count c.args.cursor.now) c.loop-test.true c.in_ok-span.ensures c.loop.invariant)
+
+pub returns : goal.returns
+returns c =
+    rw c.of.ensures (is_done (λ _. span_at) c.loop.spans.items c.args.count c.loop.counter None c.loop.cursor (any_at span_at c.args.count c.args.cursor.now) c.loop-test.false c.loop.invariant)
